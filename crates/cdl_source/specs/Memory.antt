@@ -1,0 +1,77 @@
+-- Files and a sink in memory: what contracts see of them, and what each call does.
+use Rattle.std.specs.Prelude.{not, ◌++◌, take, ◌==◌, ◌&&◌, ◌-◌, ℕ, ◌+◌, min, Bool, ◌||◌, List, [], ◌∷◌, length, drop, Option, Some, None, is_none, unwrap_or, if◌then◌else◌, slice_get}
+use Rattle.std.specs.Option.{option_map_or}
+use Rattle.cdl_source.specs.Faults.{CallFaults, fails_next, calls_after}
+use Rattle.std.specs.Str.{bytes_eq}
+use Rattle.cdl_source.specs.declared.mem_files.Named.{Named}
+
+-- the bytes that were put last under a name; the newest stands first
+abbrev pub contents_of : List Named → List ℕ → Option (List ℕ)
+contents_of [] name = None
+contents_of (f ∷ fs) name = if bytes_eq f.name name then Some f.bytes else contents_of fs name
+
+-- what is left of the file that was begun last
+abbrev pub rest_of : List Named → Option ℕ → ℕ → List ℕ
+rest_of files None at = []
+rest_of files (Some i) at = option_map_or (λ f. drop at f.bytes) (slice_get files i) []
+
+-- the files in memory
+pub record Store : Type 0 where
+  pub files : List Named
+  pub rest : List ℕ
+  pub begun : ℕ
+  pub calls : CallFaults
+
+abbrev pub begin_fails : Store → List ℕ → Bool
+begin_fails m name = fails_next m.calls || is_none (contents_of m.files name)
+
+abbrev pub store_begun : Store → List ℕ → Store
+store_begun m name =
+    record {
+      files = m.files;
+      rest = if begin_fails m name then [] else unwrap_or (contents_of m.files name) [];
+      begun = m.begun + 1;
+      calls = calls_after m.calls (begin_fails m name);
+    }
+
+-- how many bytes the next read gives where it does not fail
+abbrev pub read_count : Store → ℕ → ℕ
+read_count m room = min (length m.rest) room
+
+abbrev pub store_read : Store → ℕ → Store
+store_read m room =
+    record {
+      files = m.files;
+      rest = if fails_next m.calls then m.rest else drop (read_count m room) m.rest;
+      begun = m.begun;
+      calls = calls_after m.calls (fails_next m.calls);
+    }
+
+-- the store with one more file, of which nothing was begun
+abbrev pub store_with : Store → List ℕ → List ℕ → Store
+store_with m name bytes =
+    record { files = record { name = name; bytes = bytes } ∷ m.files; rest = []; begun = m.begun; calls = m.calls }
+
+-- A sink in memory: its bytes, the most that one write takes, the room for all of them, and the calls that fail.
+pub record Tray : Type 0 where
+  pub bytes : List ℕ
+  pub most : ℕ
+  pub room : ℕ
+  pub calls : CallFaults
+
+-- A write of so many bytes fails: its number is one of those that fail, or there is no room for any of them.
+abbrev pub write_fails : Tray → ℕ → Bool
+write_fails s size = fails_next s.calls || (not (size == 0) && (length s.bytes == s.room))
+
+-- how many bytes a write of so many takes, where it does not fail
+abbrev pub write_count : Tray → ℕ → ℕ
+write_count s size = min (min size s.most) (s.room - length s.bytes)
+
+abbrev pub tray_written : Tray → List ℕ → Tray
+tray_written s piece =
+    record {
+      bytes = if write_fails s (length piece) then s.bytes else s.bytes ++ take (write_count s (length piece)) piece;
+      most = s.most;
+      room = s.room;
+      calls = calls_after s.calls (write_fails s (length piece));
+    }
