@@ -1,0 +1,5 @@
+pub mod Runs
+pub mod Shapes
+pub mod Heads
+pub mod Continues
+pub mod Places

@@ -1,0 +1,25 @@
+-- The bytes of a file and the tokens in them.
+use Rattle.std.specs.Prelude.{ℕ, ◌<◌, ◌≤◌, List, All, length, slice_range}
+use Rattle.cdl_source.specs.declared.place.Token.{Token}
+
+-- what contracts see of `Tokens`
+pub record TokenList : Type 0 where
+  pub file : ℕ
+  pub bytes : List ℕ
+  pub items : List Token
+
+-- the most bytes that a text may have
+abbrev pub longest_text : ℕ
+longest_text = 524288
+
+-- a token's text: from the first byte of its span up to the one behind its last
+abbrev pub text_of : List ℕ → Token → List ℕ
+text_of bytes t = slice_range bytes t.span.start t.span.end
+
+-- The token has one byte or more, and they lie in the text.
+pub record LiesWithin (bytes : List ℕ) (t : Token) : Type 0 where
+  pub order : t.span.start < t.span.end
+  pub within : t.span.end ≤ length bytes
+
+abbrev pub LieWithin : List ℕ → List Token → Type 0
+LieWithin bytes ts = All (LiesWithin bytes) ts

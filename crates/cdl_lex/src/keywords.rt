@@ -1,0 +1,72 @@
+// The keywords of the language.
+ghost use Rattle.std.specs.Prelude.{◌≡◌};
+ghost use Rattle.cdl_lex.specs.Keywords as spec;
+
+pub(crate) const KEYWORDS: [&[u8]; 59] = [
+    b"algorithm",
+    b"and",
+    b"annotation",
+    b"block",
+    b"break",
+    b"class",
+    b"connect",
+    b"connector",
+    b"constant",
+    b"constrainedby",
+    b"der",
+    b"discrete",
+    b"each",
+    b"else",
+    b"elseif",
+    b"elsewhen",
+    b"encapsulated",
+    b"end",
+    b"enumeration",
+    b"equation",
+    b"expandable",
+    b"extends",
+    b"external",
+    b"false",
+    b"final",
+    b"flow",
+    b"for",
+    b"function",
+    b"if",
+    b"import",
+    b"impure",
+    b"in",
+    b"initial",
+    b"inner",
+    b"input",
+    b"loop",
+    b"model",
+    b"not",
+    b"operator",
+    b"or",
+    b"outer",
+    b"output",
+    b"package",
+    b"parameter",
+    b"partial",
+    b"protected",
+    b"public",
+    b"pure",
+    b"record",
+    b"redeclare",
+    b"replaceable",
+    b"return",
+    b"stream",
+    b"then",
+    b"true",
+    b"type",
+    b"when",
+    b"while",
+    b"within",
+];
+
+/// Whether a word is one of the keywords of the language, as `block`; such a word is no identifier. It takes no memory.
+pub fn is_keyword(word: &[u8]) -> bool
+    ensures { result ≡ spec.is_keyword word.now }
+{
+    KEYWORDS.contains(&word)
+}

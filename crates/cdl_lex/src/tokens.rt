@@ -1,0 +1,68 @@
+// A text with its tokens.
+ghost use Rattle.std.specs.Prelude.{◌≡◌, ◌≤◌, ◌<◌, Some, length, slice_get};
+ghost use Rattle.cdl_lex.specs.TokenList.{LiesWithin, LieWithin, longest_text};
+
+use cdl_source::{List, Text, Token};
+use std::marker::Model;
+
+/// The bytes of a file, and their tokens in order. A token's span begins at its first byte and ends behind its last one, both
+/// counted from 0, and its text is that slice of the bytes.
+#[derive(Debug, Drop)]
+pub struct Tokens {
+    file: u32,
+    bytes: Text,
+    items: List<Token>,
+}
+
+impl Model for Tokens {
+    ghost use Rattle.std.specs.Prelude.{◌≤◌, length};
+    ghost use Rattle.cdl_lex.specs.TokenList.{TokenList, LieWithin, longest_text};
+
+    ghost Value = { TokenList };
+
+    ghost view = { λ t. record { file = t.file; bytes = t.bytes; items = t.items } };
+
+    ghost invariant = { λ t. (length t.bytes ≤ longest_text) × LieWithin t.bytes t.items };
+}
+
+impl Tokens {
+    // The text is short enough, and the tokens lie in it.
+    pub(crate) fn new(file: u32, bytes: Text, items: List<Token>) -> Tokens
+        requires limit { length bytes ≤ longest_text }
+        requires within { LieWithin bytes items }
+        ensures { result ≡ record { file = file; bytes = bytes; items = items } }
+    {
+        Tokens { file, bytes, items }
+    }
+
+    /// How many tokens there are.
+    pub fn len(&self) -> usize
+        ensures { result ≡ length self.now.items }
+    {
+        self.items.items().len()
+    }
+
+    /// The number of the file, as `lex` was given it.
+    pub fn file(&self) -> u32
+        ensures { result ≡ self.now.file }
+    {
+        self.file
+    }
+
+    /// All bytes of the text, lent: at most 524,288.
+    pub fn bytes(&self) -> &[u8]
+        ensures bytes { result.now ≡ self.now.bytes }
+        ensures limit { length result.now ≤ longest_text }
+    {
+        self.bytes.bytes()
+    }
+
+    /// The token of this number, counted from 0. It lies within the bytes.
+    pub fn token(&self, i: usize) -> Token
+        requires { i < length self.now.items }
+        ensures token { slice_get self.now.items i ≡ Some result }
+        ensures within { LiesWithin self.now.bytes result }
+    {
+        self.items.items()[i]
+    }
+}
