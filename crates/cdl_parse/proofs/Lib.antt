@@ -1,0 +1,9 @@
+pub mod Next
+pub mod Steps
+pub mod Sound
+pub mod Turns
+pub mod Complete
+pub mod Alike
+pub mod Local
+pub mod Top
+pub mod Longest

@@ -1,0 +1,9 @@
+pub mod Words
+pub mod Trees
+pub mod Terminals
+pub mod Grammar
+pub mod Reading
+pub mod Rules
+pub mod Ahead
+pub mod Gives
+pub mod Verdict

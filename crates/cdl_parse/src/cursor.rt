@@ -1,0 +1,186 @@
+// A place among the tokens, from which the rules read on.
+ghost use Rattle.std.specs.Prelude.{◌≡◌, length};
+ghost use Rattle.cdl_lex.specs.TokenList.{LiesWithin};
+ghost use Rattle.cdl_lex.specs.TokenList as list;
+ghost use Rattle.cdl_parse.specs.Gives.{Gives};
+ghost use Rattle.cdl_parse.specs.Reading as spec;
+ghost use Rattle.cdl_parse.specs.Terminals as terminals;
+ghost use Rattle.cdl_parse.specs.Words as words;
+
+use crate::kind::{Kind, kind_of};
+use crate::tree::Ident;
+use cdl_lex::Tokens;
+use cdl_source::{OutOfMemory, Span, Text, Token};
+use std::alloc::Global;
+use std::marker::Model;
+
+/// Why a rule stopped.
+#[derive(Clone, Copy)]
+pub(crate) enum Fault {
+    OutOfMemory,
+    /// The token at which the cursor stands.
+    Syntax,
+}
+
+impl From<OutOfMemory> for Fault {
+    ghost use Rattle.std.specs.Prelude.{◌≡◌};
+    ghost use Rattle.cdl_parse.specs.declared.cursor.Fault.TheVariants.{OutOfMemory};
+
+    ghost from_gives = { λ _ e. e ≡ OutOfMemory };
+
+    fn from(_: OutOfMemory) -> Fault {
+        Fault::OutOfMemory
+    }
+}
+
+/// A place among tokens, which contracts see as the tokens from there on.
+#[derive(Drop)]
+pub(crate) struct Cursor<'a> {
+    tokens: &'a Tokens,
+    at: usize,
+}
+
+impl<'a> Model for Cursor<'a> {
+    ghost use Rattle.cdl_parse.specs.Words.{Word};
+
+    ghost Value = { Word };
+
+    ghost use Rattle.cdl_parse.specs.Ahead.{rest_of, IsAmong};
+
+    ghost view = { rest_of };
+
+    ghost invariant = { IsAmong };
+}
+
+// A token's text.
+fn text_of(tokens: &Tokens, token: Token) -> &[u8]
+    requires { LiesWithin tokens.now.bytes token }
+    ensures { result.now ≡ list.text_of tokens.now.bytes token }
+{
+    &tokens.bytes()[token.span.start as usize..token.span.end as usize]
+}
+
+impl<'a> Cursor<'a> {
+    /// Before the first token.
+    pub(crate) fn new(tokens: &'a Tokens) -> Cursor<'a>
+        ensures { result ≡ terminals.terminals tokens.now }
+    {
+        Cursor { tokens, at: 0 }
+    }
+
+    /// The kind of the next token, `Nothing` behind the last one.
+    pub(crate) fn peek(&self) -> Kind
+        ensures { result ≡ spec.kind self.now }
+    {
+        if self.at == self.tokens.len() {
+            return Kind::Nothing;
+        }
+        let token = self.tokens.token(self.at);
+        kind_of(token.sort, text_of(self.tokens, token))
+    }
+
+    #[tactic(auto, unfolding(crate::specs::Reading::sees, crate::specs::Words::same_kind))]
+    pub(crate) fn sees(&self, kind: Kind) -> bool
+        ensures { result ≡ spec.sees kind self.now }
+    {
+        self.peek() == kind
+    }
+
+    /// Goes past the next token, where there is one.
+    fn skip(&mut self)
+        ensures { self.new ≡ spec.next self.old }
+    {
+        if self.at < self.tokens.len() {
+            self.at += 1;
+        }
+    }
+
+    /// Takes a token of this kind, if one is next, and says so.
+    #[tactic(auto, unfolding(crate::specs::Reading::after))]
+    pub(crate) fn eat(&mut self, kind: Kind) -> bool
+        ensures found { result ≡ spec.sees kind self.old }
+        ensures after { self.new ≡ spec.after kind self.old }
+    {
+        let found = self.sees(kind);
+        if found {
+            self.skip();
+        }
+        found
+    }
+
+    /// Takes a token of this kind. A fault leaves the cursor where it was.
+    #[tactic(auto, unfolding(crate::specs::Reading::expect))]
+    pub(crate) fn expect(&mut self, kind: Kind) -> Result<(), Fault>
+        ensures { Gives (spec.expect kind self.old) result self.new }
+    {
+        if self.sees(kind) {
+            self.skip();
+            Ok(())
+        } else {
+            Err(Fault::Syntax)
+        }
+    }
+
+    /// Nothing is taken, and no token may be left.
+    #[tactic(auto, unfolding(crate::specs::Reading::expect_end))]
+    pub(crate) fn expect_end(&self) -> Result<(), Fault>
+        ensures { Gives (spec.expect_end self.now) result self.now }
+    {
+        if self.left() == 0 {
+            Ok(())
+        } else {
+            Err(Fault::Syntax)
+        }
+    }
+
+    /// Takes an identifier. A fault leaves the cursor where it was.
+    #[tactic(auto, unfolding(crate::specs::Reading::ident))]
+    pub(crate) fn ident(&mut self, alloc: Global) -> Result<Ident, Fault>
+        ensures { Gives (spec.ident self.old) result self.new }
+    {
+        if !self.sees(Kind::Identifier) {
+            return Err(Fault::Syntax);
+        }
+        let token = self.tokens.token(self.at);
+        let mut text = Text::new(alloc);
+        text.push(text_of(self.tokens, token))?;
+        self.skip();
+        Ok(Ident {
+            text,
+            span: token.span,
+        })
+    }
+
+    /// The same place, to tell later what was read from here on.
+    pub(crate) fn here(&self) -> Cursor<'a>
+        ensures { result ≡ self.now }
+    {
+        Cursor {
+            tokens: self.tokens,
+            at: self.at,
+        }
+    }
+
+    /// The bytes of the tokens that were read since `start`.
+    pub(crate) fn span_since(&self, start: &Cursor<'_>) -> Span
+        ensures { result ≡ words.span_of (spec.since start.now self.now) }
+    {
+        let end = start.tokens.len().saturating_sub(self.left());
+        if end <= start.at {
+            return Span { start: 0, end: 0 };
+        }
+        let first = start.tokens.token(start.at);
+        let last = start.tokens.token(end - 1);
+        Span {
+            start: first.span.start,
+            end: last.span.end,
+        }
+    }
+
+    /// How many tokens are left.
+    pub(crate) fn left(&self) -> usize
+        ensures { result ≡ length self.now }
+    {
+        self.tokens.len() - self.at
+    }
+}
