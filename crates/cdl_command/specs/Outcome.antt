@@ -1,0 +1,81 @@
+-- What each outcome is told by: the exit code, and the text on standard error.
+use Rattle.std.specs.Prelude.{ℕ, ℤ, ◌==◌, nat_lt, List, [], ◌∷◌, ◌++◌, if◌then◌else◌, codes, decimal, get_or}
+use Rattle.std.specs.Fmt.{signed_decimal}
+use Rattle.cdl_command.specs.Job.{Task, CheckOf, RunOf, CxfOf, CheckCxfOf, RunCxfOf, SampleOf}
+use Rattle.cdl_command.specs.declared.outcome.Outcome.{Outcome}
+use Rattle.cdl_command.specs.declared.outcome.Outcome.TheVariants.{Done, Refused, Usage, RangeFault, ReadFault, WriteFault, OutOfMemory}
+use Rattle.cdl_command.specs.declared.outcome.Spot.{Spot}
+use Rattle.cdl_command.specs.declared.outcome.Spot.TheVariants.{Source, Path, Statement, Wire, Cell, Node, Whole}
+
+abbrev pub code_of : Outcome → ℕ
+code_of Done = 0
+code_of (Refused rule spot) = 1
+code_of Usage = 2
+code_of (RangeFault time path) = 3
+code_of ReadFault = 4
+code_of WriteFault = 5
+code_of OutOfMemory = 6
+
+-- the words that name the models of a job, its table and its document
+abbrev pub models_of : Task → List (List ℕ)
+models_of (CheckOf class models) = models
+models_of (RunOf class table models) = models
+models_of (CxfOf class models) = models
+models_of _ = []
+
+abbrev pub table_of : Task → List ℕ
+table_of (RunOf class table models) = table
+table_of (RunCxfOf table doc) = table
+table_of _ = []
+
+abbrev pub document_of : Task → List ℕ
+document_of (CheckCxfOf doc) = doc
+document_of (RunCxfOf table doc) = doc
+document_of _ = []
+
+-- the files that a job reads, in the order of work
+abbrev pub files_of : Task → List (List ℕ)
+files_of (CheckOf class models) = models
+files_of (RunOf class table models) = models ++ table ∷ []
+files_of (CxfOf class models) = models
+files_of (CheckCxfOf doc) = doc ∷ []
+files_of (RunCxfOf table doc) = doc ∷ table ∷ []
+files_of (SampleOf n) = []
+
+-- the text of each rule
+abbrev pub rule_text : ℕ → List ℕ
+rule_text rule = if rule == 9 then codes "not built yet" else []
+
+-- NAME:LINE:COLUMN
+abbrev pub position_text : List ℕ → ℕ → ℕ → List ℕ
+position_text name line column = name ++ codes ":" ++ decimal line ++ codes ":" ++ decimal column
+
+-- where a rule is broken, for a spot whose byte stands in this line and column
+abbrev pub spot_text : Task → ℕ → ℕ → ℕ → Spot → List ℕ
+spot_text task line column rule (Source place) = position_text (get_or (models_of task) place.file []) line column
+spot_text task line column rule (Path path) = path
+spot_text task line column rule (Statement path place) = position_text (get_or (models_of task) place.file []) line column ++ codes " in " ++ path
+spot_text task line column rule (Wire left right) = left ++ codes " to " ++ right
+spot_text task line column rule (Cell row field) = position_text (table_of task) row field
+spot_text task line column rule (Node node) = document_of task ++ codes ": node " ++ decimal node
+spot_text task line column rule Whole = if nat_lt rule 70 then table_of task else document_of task
+
+abbrev pub usage_text : List ℕ
+usage_text = codes "usage: cdl check CLASS MODEL.. | run CLASS TABLE MODEL.. | cxf CLASS MODEL.. | checkcxf DOC | runcxf TABLE DOC | sample N\n"
+
+abbrev pub refusal_text : Task → ℕ → ℕ → ℕ → Spot → List ℕ
+refusal_text task line column rule spot =
+    spot_text task line column rule spot ++ codes ": C" ++ decimal rule ++ codes " " ++ rule_text rule ++ codes "\n"
+
+abbrev pub range_fault_text : ℤ → List ℕ → List ℕ
+range_fault_text time path = codes "range fault at " ++ signed_decimal time ++ codes " in " ++ path ++ codes "\n"
+
+-- the text on standard error for the outcome of a job
+abbrev pub err_text : Task → ℕ → ℕ → Outcome → List ℕ
+err_text task line column Done = []
+err_text task line column (Refused rule spot) = refusal_text task line column rule spot
+err_text task line column Usage = usage_text
+err_text task line column (RangeFault time path) = range_fault_text time path
+err_text task line column ReadFault = codes "read fault\n"
+err_text task line column WriteFault = codes "write fault\n"
+err_text task line column OutOfMemory = codes "out of memory\n"

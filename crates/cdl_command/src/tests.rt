@@ -1,0 +1,372 @@
+ghost use Rattle.std.specs.Prelude.{◌≡◌, IfOk};
+
+use super::*;
+use cdl_source::{MemFiles, MemSink};
+use std::alloc::Global;
+use std::process::Abort;
+use std::test::Fail;
+
+// What words, a model and a table end with: the code, and the texts on the two sinks.
+struct Case {
+    words: &'static str,
+    model: &'static str,
+    table: &'static str,
+    code: u8,
+    out: &'static str,
+    err: &'static str,
+}
+
+const GATES: &str =
+    "block M\n  Buildings.Controls.OBC.CDL.Interfaces.BooleanInput u1;\n  Buildings.Controls.OBC.CDL.Interfaces.BooleanInput u2;\n  Buildings.Controls.OBC.CDL.Interfaces.BooleanOutput y;\n  Buildings.Controls.OBC.CDL.Logical.Not n;\n  Buildings.Controls.OBC.CDL.Logical.And a;\n  Buildings.Controls.OBC.CDL.Logical.Or o;\nequation\n  connect(u1, n.u);\n  connect(n.y, a.u1);\n  connect(u2, a.u2);\n  connect(u1, o.u1);\n  connect(a.y, o.u2);\n  connect(o.y, y);\nend M;\n";
+
+const TABLE: &str = "time,u1,u2\n0,false,false\n1000,false,true\n2000,true,false\n3000,true,true\n";
+
+const TRACE: &str = "time,y\n0,false\n1000,true\n2000,true\n3000,true\n";
+
+const RUN: &str = "run M t.csv m.mo";
+
+const USAGE_LINE: &str =
+    "usage: cdl check CLASS MODEL.. | run CLASS TABLE MODEL.. | cxf CLASS MODEL.. | checkcxf DOC | runcxf TABLE DOC | sample N\n";
+
+const LOOP: &str =
+    "block M Buildings.Controls.OBC.CDL.Interfaces.BooleanInput u; Buildings.Controls.OBC.CDL.Interfaces.BooleanOutput y; Buildings.Controls.OBC.CDL.Logical.Not n; Buildings.Controls.OBC.CDL.Logical.And a; Buildings.Controls.OBC.CDL.Logical.And b; equation connect(u, n.u); connect(n.y, a.u1); connect(b.y, a.u2); connect(a.y, b.u1); connect(n.y, b.u2); connect(b.y, y); end M;";
+
+const NO_MODEL: &str = "m.mo:1:1: C9 not built yet\n";
+
+const NO_TABLE: &str = "t.csv:1:1: C9 not built yet\n";
+
+const CASES: [Case; 22] = [
+    Case {
+        words: RUN,
+        model: "block M Buildings.Controls.OBC.CDL.Interfaces.BooleanInput a; Buildings.Controls.OBC.CDL.Interfaces.BooleanInput b; Buildings.Controls.OBC.CDL.Interfaces.BooleanInput c; Buildings.Controls.OBC.CDL.Interfaces.BooleanOutput y; Buildings.Controls.OBC.CDL.Logical.And p; Buildings.Controls.OBC.CDL.Logical.And q; Buildings.Controls.OBC.CDL.Logical.And r; Buildings.Controls.OBC.CDL.Logical.Or s; Buildings.Controls.OBC.CDL.Logical.Or t; equation connect(a, p.u1); connect(b, p.u2); connect(b, q.u1); connect(c, q.u2); connect(a, r.u1); connect(c, r.u2); connect(p.y, s.u1); connect(q.y, s.u2); connect(s.y, t.u1); connect(r.y, t.u2); connect(t.y, y); end M;",
+        table: "time,a,b,c\n0,0,0,0\n1,0,0,1\n2,0,1,0\n3,0,1,1\n4,1,0,0\n5,1,0,1\n6,1,1,0\n7,1,1,1\n",
+        code: 0,
+        out: "time,y\n0,false\n1,false\n2,false\n3,true\n4,false\n5,true\n6,true\n7,true\n",
+        err: "",
+    },
+    Case {
+        words: RUN,
+        model: "block M Buildings.Controls.OBC.CDL.Interfaces.BooleanInput a; Buildings.Controls.OBC.CDL.Interfaces.BooleanInput b; Buildings.Controls.OBC.CDL.Interfaces.BooleanOutput z; Buildings.Controls.OBC.CDL.Interfaces.BooleanOutput y; Buildings.Controls.OBC.CDL.Logical.Not n; Buildings.Controls.OBC.CDL.Logical.Not m; Buildings.Controls.OBC.CDL.Logical.And p; Buildings.Controls.OBC.CDL.Logical.And q; Buildings.Controls.OBC.CDL.Logical.Or o; equation connect(o.y, y); connect(a, n.u); connect(b, m.u); connect(a, p.u1); connect(m.y, p.u2); connect(n.y, q.u1); connect(b, q.u2); connect(p.y, o.u1); connect(q.y, o.u2); connect(n.y, z); end M;",
+        table: "time,a,b\n0,0,0\n1,0,1\n2,1,0\n3,1,1\n",
+        code: 0,
+        out: "time,z,y\n0,true,false\n1,true,true\n2,false,true\n3,false,false\n",
+        err: "",
+    },
+    Case {
+        words: RUN,
+        model: GATES,
+        table: TABLE,
+        code: 0,
+        out: TRACE,
+        err: "",
+    },
+    Case {
+        words: RUN,
+        model: GATES,
+        table: "time,u1,u2\n",
+        code: 0,
+        out: "time,y\n",
+        err: "",
+    },
+    Case {
+        words: RUN,
+        model: LOOP,
+        table: "",
+        code: 1,
+        out: "",
+        err: NO_MODEL,
+    },
+    Case {
+        words: RUN,
+        model: "block M equation end M;",
+        table: "time\n7\n",
+        code: 0,
+        out: "time\n7\n",
+        err: "",
+    },
+    Case {
+        words: RUN,
+        model: "block M end M;",
+        table: "time\n",
+        code: 1,
+        out: "",
+        err: NO_MODEL,
+    },
+    Case {
+        words: RUN,
+        model: "block N equation end N;",
+        table: "time\n",
+        code: 1,
+        out: "",
+        err: NO_MODEL,
+    },
+    Case {
+        words: "run Modelica t.csv m.mo",
+        model: "block Modelica equation end Modelica;",
+        table: "time\n",
+        code: 1,
+        out: "",
+        err: NO_MODEL,
+    },
+    Case {
+        words: RUN,
+        model: GATES,
+        table: "",
+        code: 1,
+        out: "",
+        err: NO_TABLE,
+    },
+    Case {
+        words: RUN,
+        model: GATES,
+        table: "time,u2,u1\n",
+        code: 1,
+        out: "",
+        err: NO_TABLE,
+    },
+    Case {
+        words: RUN,
+        model: GATES,
+        table: "time,u1,u2\n0,true\n",
+        code: 1,
+        out: "",
+        err: NO_TABLE,
+    },
+    Case {
+        words: RUN,
+        model: GATES,
+        table: "time,u1,u2\n0,true,yes\n",
+        code: 1,
+        out: "",
+        err: NO_TABLE,
+    },
+    Case {
+        words: RUN,
+        model: GATES,
+        table: "time,u1,u2\n10000000000000,1,0\n",
+        code: 0,
+        out: "time,y\n10000000000000,true\n",
+        err: "",
+    },
+    Case {
+        words: "run M t.csv none.mo",
+        model: GATES,
+        table: TABLE,
+        code: 4,
+        out: "",
+        err: "read fault\n",
+    },
+    Case {
+        words: "run M none.csv m.mo",
+        model: GATES,
+        table: TABLE,
+        code: 4,
+        out: "",
+        err: "read fault\n",
+    },
+    Case {
+        words: "run M.N t.csv m.mo",
+        model: GATES,
+        table: TABLE,
+        code: 1,
+        out: "",
+        err: "#: C9 not built yet\n",
+    },
+    Case {
+        words: "check M m.mo",
+        model: GATES,
+        table: TABLE,
+        code: 1,
+        out: "",
+        err: "#: C9 not built yet\n",
+    },
+    Case {
+        words: "sample 2000",
+        model: GATES,
+        table: TABLE,
+        code: 1,
+        out: "",
+        err: "#: C9 not built yet\n",
+    },
+    Case {
+        words: "sample 007",
+        model: GATES,
+        table: TABLE,
+        code: 2,
+        out: "",
+        err: USAGE_LINE,
+    },
+    Case {
+        words: "check end m.mo",
+        model: GATES,
+        table: TABLE,
+        code: 2,
+        out: "",
+        err: USAGE_LINE,
+    },
+    Case {
+        words: "run M t.csv",
+        model: GATES,
+        table: TABLE,
+        code: 2,
+        out: "",
+        err: USAGE_LINE,
+    },
+];
+
+// Texts, and whether they are a model: each rule is broken alone beside the nearest text that keeps it.
+const MODELS: [(&str, bool); 21] = [
+    (
+        "block M Buildings.Controls.OBC.CDL.Interfaces.BooleanInput u; Buildings.Controls.OBC.CDL.Interfaces.BooleanOutput y; Buildings.Controls.OBC.CDL.Logical.Not n; Buildings.Controls.OBC.CDL.Logical.And a; equation connect(u, n.u); connect(n.y, a.u1); connect(u, a.u2); connect(a.y, y); end M;",
+        true,
+    ),
+    (
+        "block M Buildings.Controls.OBC.CDL.Interfaces.BooleanInput flow; Buildings.Controls.OBC.CDL.Interfaces.BooleanOutput y; Buildings.Controls.OBC.CDL.Logical.Not n; Buildings.Controls.OBC.CDL.Logical.And a; equation connect(flow, n.u); connect(n.y, a.u1); connect(flow, a.u2); connect(a.y, y); end M;",
+        false,
+    ),
+    (
+        "block M Buildings.Controls.OBC.CDL.Interfaces.BooleanInput u; Buildings.Controls.OBC.CDL.Interfaces.BooleanOutput y; Buildings.Controls.OBC.CDL.Logical.Not n; Buildings.Controls.OBC.CDL.Logical.And a; equation connect(u, n.u); connect(n.y, a.u1); connect(u, a.u2); connect(a.y, y); end M; // end",
+        false,
+    ),
+    (
+        "\u{feff}block M Buildings.Controls.OBC.CDL.Interfaces.BooleanInput u; Buildings.Controls.OBC.CDL.Interfaces.BooleanOutput y; Buildings.Controls.OBC.CDL.Logical.Not n; Buildings.Controls.OBC.CDL.Logical.And a; equation connect(u, n.u); connect(n.y, a.u1); connect(u, a.u2); connect(a.y, y); end M;",
+        false,
+    ),
+    (
+        "block M Buildings.Controls.OBC.CDL.Interfaces.BooleanInput u; Buildings.Controls.OBC.CDL.Interfaces.BooleanOutput y; Buildings.Controls.OBC.CDL.Logical.Not xxxxxxxxxxxxxxxxxxxxxxxxxxxxxxxxxxxxxxxxxxxxxxxxxxxxxxxxxxxxxxxx; Buildings.Controls.OBC.CDL.Logical.And a; equation connect(u, xxxxxxxxxxxxxxxxxxxxxxxxxxxxxxxxxxxxxxxxxxxxxxxxxxxxxxxxxxxxxxxx.u); connect(xxxxxxxxxxxxxxxxxxxxxxxxxxxxxxxxxxxxxxxxxxxxxxxxxxxxxxxxxxxxxxxx.y, a.u1); connect(u, a.u2); connect(a.y, y); end M;",
+        true,
+    ),
+    (
+        "block M Buildings.Controls.OBC.CDL.Interfaces.BooleanInput u; Buildings.Controls.OBC.CDL.Interfaces.BooleanOutput y; Buildings.Controls.OBC.CDL.Logical.Not xxxxxxxxxxxxxxxxxxxxxxxxxxxxxxxxxxxxxxxxxxxxxxxxxxxxxxxxxxxxxxxxx; Buildings.Controls.OBC.CDL.Logical.And a; equation connect(u, xxxxxxxxxxxxxxxxxxxxxxxxxxxxxxxxxxxxxxxxxxxxxxxxxxxxxxxxxxxxxxxxx.u); connect(xxxxxxxxxxxxxxxxxxxxxxxxxxxxxxxxxxxxxxxxxxxxxxxxxxxxxxxxxxxxxxxxx.y, a.u1); connect(u, a.u2); connect(a.y, y); end M;",
+        false,
+    ),
+    (
+        "block M Buildings.Controls.OBC.CDL.Interfaces.BooleanInput u; Buildings.Controls.OBC.CDL.Interfaces.BooleanOutput y; Buildings.Controls.OBC.CDL.Logical.Not n; Buildings.Controls.OBC.CDL.Logical.Xor a; equation connect(u, n.u); connect(n.y, a.u1); connect(u, a.u2); connect(a.y, y); end M;",
+        false,
+    ),
+    (
+        "block M Buildings.Controls.OBC.CDL.Interfaces.BooleanInput u; Buildings.Controls.OBC.CDL.Interfaces.BooleanOutput y; Buildings.Controls.OBC.CDL.Logical.Not n; Buildings.Controls.OBC.CDL.Logical.Not n; Buildings.Controls.OBC.CDL.Logical.And a; equation connect(u, n.u); connect(n.y, a.u1); connect(u, a.u2); connect(a.y, y); end M;",
+        false,
+    ),
+    (
+        "block M Buildings.Controls.OBC.CDL.Interfaces.BooleanInput u; Buildings.Controls.OBC.CDL.Interfaces.BooleanOutput y; Buildings.Controls.OBC.CDL.Logical.Not u; Buildings.Controls.OBC.CDL.Logical.And a; equation connect(u, u.u); connect(u.y, a.u1); connect(u, a.u2); connect(a.y, y); end M;",
+        false,
+    ),
+    (
+        "block M Buildings.Controls.OBC.CDL.Interfaces.BooleanInput u; Buildings.Controls.OBC.CDL.Interfaces.BooleanOutput y; Buildings.Controls.OBC.CDL.Logical.Not Real; Buildings.Controls.OBC.CDL.Logical.And a; equation connect(u, Real.u); connect(Real.y, a.u1); connect(u, a.u2); connect(a.y, y); end M;",
+        false,
+    ),
+    (
+        "block M Buildings.Controls.OBC.CDL.Interfaces.BooleanInput u; Buildings.Controls.OBC.CDL.Interfaces.BooleanOutput y; Buildings.Controls.OBC.CDL.Logical.And a; Buildings.Controls.OBC.CDL.Logical.Not n; equation connect(u, n.u); connect(n.y, a.u1); connect(u, a.u2); connect(a.y, y); end M;",
+        false,
+    ),
+    (
+        "block M Buildings.Controls.OBC.CDL.Interfaces.BooleanInput u; Buildings.Controls.OBC.CDL.Interfaces.BooleanOutput y; Buildings.Controls.OBC.CDL.Logical.Not n; Buildings.Controls.OBC.CDL.Logical.And a; equation connect(u, n.u); connect(n.y, a.u1); connect(a.y, a.u2); connect(a.y, y); end M;",
+        false,
+    ),
+    (
+        "block M Buildings.Controls.OBC.CDL.Interfaces.BooleanInput u; Buildings.Controls.OBC.CDL.Interfaces.BooleanOutput y; Buildings.Controls.OBC.CDL.Logical.Not n; Buildings.Controls.OBC.CDL.Logical.And a; equation connect(u, n.u); connect(n.y, a.u1); connect(u, a.u2); connect(u, a.u2); connect(a.y, y); end M;",
+        false,
+    ),
+    (
+        "block M Buildings.Controls.OBC.CDL.Interfaces.BooleanInput u; Buildings.Controls.OBC.CDL.Interfaces.BooleanOutput y; Buildings.Controls.OBC.CDL.Logical.Not n; Buildings.Controls.OBC.CDL.Logical.And a; equation connect(u, n.u); connect(n.y, a.u1);  connect(a.y, y); end M;",
+        false,
+    ),
+    (
+        "block M Buildings.Controls.OBC.CDL.Interfaces.BooleanInput u; Buildings.Controls.OBC.CDL.Interfaces.BooleanOutput y; Buildings.Controls.OBC.CDL.Logical.Not n; Buildings.Controls.OBC.CDL.Logical.And a; equation connect(u, n.u); connect(n.y, a.u1);  connect(y, a.u2); connect(a.y, y); end M;",
+        false,
+    ),
+    (
+        "block M Buildings.Controls.OBC.CDL.Interfaces.BooleanInput u; Buildings.Controls.OBC.CDL.Interfaces.BooleanOutput y; Buildings.Controls.OBC.CDL.Logical.Not n; Buildings.Controls.OBC.CDL.Logical.And a; equation connect(u, n.u); connect(n.y, a.u1); connect(n.y, a.u2); connect(a.y, y); end M;",
+        true,
+    ),
+    (
+        "block M Buildings.Controls.OBC.CDL.Interfaces.BooleanInput u; Buildings.Controls.OBC.CDL.Interfaces.BooleanOutput y; Buildings.Controls.OBC.CDL.Logical.Not n; Buildings.Controls.OBC.CDL.Logical.And a; equation connect(u, n.u); connect(n.y, a.u1); connect(a.u1, a.u2); connect(a.y, y); end M;",
+        false,
+    ),
+    (
+        "block M Buildings.Controls.OBC.CDL.Interfaces.BooleanInput u; Buildings.Controls.OBC.CDL.Interfaces.BooleanOutput y; Buildings.Controls.OBC.CDL.Logical.Not n; Buildings.Controls.OBC.CDL.Logical.And a; equation connect(u, n.u); connect(n.y, a.u1); connect(u, a.u3); connect(a.y, y); end M;",
+        false,
+    ),
+    (
+        "block M Buildings.Controls.OBC.CDL.Interfaces.BooleanInput u; Buildings.Controls.OBC.CDL.Interfaces.BooleanOutput y; Buildings.Controls.OBC.CDL.Logical.Not n; Buildings.Controls.OBC.CDL.Logical.And a; equation connect(u, n.u); connect(n.y, a.u1); connect(u, a.u2); connect(a.y, y); end N;",
+        false,
+    ),
+    (
+        "block M Buildings.Controls.OBC.CDL.Interfaces.BooleanInput u; Buildings.Controls.OBC.CDL.Interfaces.BooleanOutput y; Buildings.Controls.OBC.CDL.Logical.Not n; Buildings.Controls.OBC.CDL.Logical.And a; equation connect(u, n.u); connect(n.y, a.u1); connect(u, a.u2); connect(a.y, y); end M",
+        false,
+    ),
+    (
+        "block N Buildings.Controls.OBC.CDL.Interfaces.BooleanInput u; Buildings.Controls.OBC.CDL.Interfaces.BooleanOutput y; Buildings.Controls.OBC.CDL.Logical.Not n; Buildings.Controls.OBC.CDL.Logical.And a; equation connect(u, n.u); connect(n.y, a.u1); connect(u, a.u2); connect(a.y, y); end N;",
+        false,
+    ),
+];
+
+fn words_of(alloc: Global, text: &str) -> Result<Vec<String>, Fail> {
+    let mut words = Vec::new(alloc);
+    for word in text.split(' ') {
+        words.push(word.to_string(alloc)?)?;
+    }
+    Ok(words)
+}
+
+fn files_of(alloc: Global, case: &Case) -> Result<MemFiles, Fail>
+    ensures { IfOk result (λ files. files.begun ≡ 0) }
+{
+    let mut files = MemFiles::new(alloc);
+    files.put("m.mo", case.model.as_bytes())?;
+    files.put("t.csv", case.table.as_bytes())?;
+    Ok(files)
+}
+
+fn ends_so(rt: &impl Abort, alloc: Global, case: &Case) -> Result<(), Fail> {
+    let words = words_of(alloc, case.words)?;
+    let mut files = files_of(alloc, case)?;
+    let mut out = MemSink::new(alloc, 7, 4096)?;
+    let mut err = MemSink::new(alloc, 4096, 4096)?;
+    let outcome = command(alloc, &words, &mut files, &mut out, &mut err);
+    assert_eq!(rt; outcome.code(), case.code);
+    assert_eq!(rt; out.bytes(), case.out.as_bytes());
+    assert_eq!(rt; err.bytes(), case.err.as_bytes());
+    Ok(())
+}
+
+#[test]
+fn jobs_end_so(rt: HostRuntime) -> Result<(), Fail> {
+    for case in CASES.iter() {
+        ends_so(&rt, rt.alloc(), case)?;
+    }
+    Ok(())
+}
+
+#[test]
+fn models_keep_each_rule(rt: HostRuntime) -> Result<(), Fail> {
+    let alloc = rt.alloc();
+    for (model, is_one) in MODELS.iter() {
+        let words = words_of(alloc, RUN)?;
+        let mut files = MemFiles::new(alloc);
+        files.put("m.mo", model.as_bytes())?;
+        files.put("t.csv", b"time,u\n5,1\n")?;
+        let mut out = MemSink::new(alloc, 64, 64)?;
+        let mut err = MemSink::new(alloc, 64, 64)?;
+        let outcome = command(alloc, &words, &mut files, &mut out, &mut err);
+        let code = if *is_one { 0 } else { 1 };
+        assert_eq!(rt; outcome.code(), code, "{model}");
+    }
+    Ok(())
+}
+
+#[test]
+fn a_full_sink_is_a_write_fault(rt: HostRuntime) -> Result<(), Fail> {
+    let alloc = rt.alloc();
+    let words = words_of(alloc, RUN)?;
+    let mut files = files_of(alloc, &CASES[2])?;
+    let mut out = MemSink::new(alloc, 4, 4096)?;
+    out.fail(2)?;
+    let mut err = MemSink::new(alloc, 4096, 4096)?;
+    let outcome = command(alloc, &words, &mut files, &mut out, &mut err);
+    assert_eq!(rt; outcome.code(), 5);
+    assert_eq!(rt; out.bytes(), b"time".as_slice());
+    assert_eq!(rt; err.bytes(), b"write fault\n".as_slice());
+    Ok(())
+}
