@@ -1,0 +1,5 @@
+pub mod Near
+pub mod Counts
+pub mod Spells
+pub mod Split
+pub mod Canon
