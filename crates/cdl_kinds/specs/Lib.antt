@@ -1,0 +1,11 @@
+pub mod Names
+pub mod Parameters
+pub mod Values
+pub mod History
+pub mod Ports
+pub mod Conditions
+pub mod StateWords
+pub mod Meaning
+pub mod Meanings
+pub mod Laws
+pub mod Reference

@@ -1,0 +1,26 @@
+//! The kinds of elementary blocks: their table, what each of them means, and the trait that a block of any kind meets.
+#![tactic(auto)]
+
+mod conditions;
+mod elementary;
+mod kind;
+mod parameter;
+mod params;
+mod port_list;
+mod ports;
+mod steps;
+mod value;
+pub mod words;
+
+pub use conditions::check;
+pub use elementary::{Elementary, NoValue};
+pub use kind::{Kind, find, kind_name};
+pub use parameter::{Parameter, Preset, parameters};
+pub use params::{KindFault, Params};
+pub use port_list::{port, port_count};
+pub use ports::Port;
+pub use steps::Steps;
+pub use value::{Array, Value, ValueType};
+
+#[cfg(test)]
+mod tests;
