@@ -1,0 +1,9 @@
+pub mod Rows
+pub mod Cells
+pub mod TableRow
+pub mod IsTable
+pub mod Broken
+pub mod Scan
+pub mod Values
+pub mod Trace
+pub mod Mixed
