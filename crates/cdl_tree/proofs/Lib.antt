@@ -1,0 +1,8 @@
+pub mod Reals
+pub mod Integers
+pub mod Strings
+mod Small
+mod SmallExprs
+mod SmallFiles
+pub mod Shapes
+pub mod FileShapes

@@ -1,0 +1,47 @@
+use super::*;
+use cdl_source::Sort;
+use std::test::Fail;
+
+#[test]
+fn literals_and_terminals(rt: HostRuntime) -> Result<(), Fail> {
+    let alloc = rt.alloc();
+    let numbers: [(&[u8], Option<i32>); 6] = [
+        (b"0", Some(0)),
+        (b"2147483647", Some(2_147_483_647)),
+        (b"2147483648", None),
+        (b"00000000000000000000000000000000000000001", Some(1)),
+        (b"99999999999999999999999999999999999999999", None),
+        (b"1.5", None),
+    ];
+    for (text, value) in numbers {
+        assert_eq!(rt; integer(text), value);
+    }
+    let strings: [(&[u8], Option<&[u8]>); 7] = [
+        (b"\"\"", Some(b"")),
+        (b"\"a\\\"b\\n\\a\\v\"", Some(b"a\"b\n\x07\x0b")),
+        (b"\"", None),
+        (b"\"a", None),
+        (b"\"a\"b\"", None),
+        (b"\"\\q\"", None),
+        (b"\"\\\"", None),
+    ];
+    for (text, value) in strings {
+        match (string(alloc, text)?, value) {
+            (Some(given), Some(wanted)) => assert_eq!(rt; given.bytes(), wanted),
+            (None, None) => {}
+            _ => panic!(rt; "not as wanted"),
+        }
+    }
+    let kinds: [(Sort, &[u8], Kind); 6] = [
+        (Sort::Identifier, b"a", Kind::Identifier),
+        (Sort::Keyword, b"elseif", Kind::ElseIf),
+        (Sort::Keyword, b"when", Kind::Other),
+        (Sort::Symbol, b"<>", Kind::NotEqual),
+        (Sort::Symbol, b"^", Kind::Other),
+        (Sort::Str, b"\"if\"", Kind::Str),
+    ];
+    for (sort, text, kind) in kinds {
+        assert_eq!(rt; kind_of(sort, text), kind);
+    }
+    Ok(())
+}
