@@ -1,14 +1,10 @@
 pub mod NameFacts
 pub mod BlockFacts
 pub mod WiringFacts
-pub mod RowFacts
-pub mod TableFacts
-pub mod TableLaw
 pub mod ModelFacts
 pub mod TraceFacts
 pub mod ReadFacts
 pub mod RunFacts
-pub mod TableTicks
 pub mod AnswerFacts
 pub mod DueFacts
 pub mod SolutionNames

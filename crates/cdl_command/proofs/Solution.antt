@@ -1,5 +1,5 @@
 -- The equations of a block have one solution, which its circuit computes.
-use Rattle.std.proofs.Common.{◌≡◌, ◌∙◌, ◌+◌, ◌<◌, ◌++◌, ℕ, suc, zero, Bool, true, false, List, [], ◌∷◌, length, map, get_or, Option, Some, None, refl, sym, ap, subst, inl, inr, arith, codes}
+use Rattle.std.proofs.Common.{◌≡◌, ◌∙◌, ◌+◌, ◌<◌, ◌++◌, ℕ, ℤ, suc, zero, Bool, true, false, List, [], ◌∷◌, length, map, get_or, Option, Some, None, refl, sym, ap, subst, inl, inr, arith, codes}
 use Rattle.std.specs.Prelude.{◌&&◌, not, option_and_then, slice_get}
 use Rattle.std.specs.Option.{option_map}
 use Rattle.std.specs.Str.{bytes_eq}
@@ -11,11 +11,15 @@ use Rattle.cdl_command.specs.Names.{place_of}
 use Rattle.cdl_command.specs.Blocks.{Declarations, nothing_declared, declare_all}
 use Rattle.cdl_command.specs.Wiring.{Wire, Joins, no_joins, join_all, source_of, sink_of, source_at}
 use Rattle.cdl_command.specs.Circuits.{Wired, circuit_of, computed, value_of, gate_values, is_ready, output_values}
-use Rattle.cdl_command.specs.Model.{block_of, with_wiring, is_reserved}
-use Rattle.cdl_command.specs.Runs.{records_text, trace_text}
+use Rattle.cdl_command.specs.Model.{IsModel, block_of, with_wiring, is_reserved}
+use Rattle.cdl_table.specs.IsTable.{AreRows, AreWords, before_all}
+use Rattle.cdl_table.specs.TableRow.{TableRow}
+use Rattle.cdl_table.specs.Trace.{header_text, record_text}
+use Rattle.cdl_table.specs.declared.column.Column.{Column}
+use Rattle.cdl_command.specs.Rows.{values_of as row_values, words_of}
+use Rattle.cdl_command.specs.Runs.{HasItsOutputs, records_text, trace_text}
+use Rattle.cdl_command.specs.Tables.{columns_of, boolean_column}
 use Rattle.cdl_command.specs.Solution.{Valuation, gate_output, GatesCompute, Solves, HasSolution, outputs_in, IsConnector, AreRecords, IsTrace, wires_of}
-use Rattle.cdl_command.specs.Trace.{header_text, record_text}
-use Rattle.cdl_command.specs.declared.table.Tick.{Tick}
 use Rattle.cdl_command.specs.declared.part.GateKind.{GateKind}
 use Rattle.cdl_command.specs.declared.part.GateKind.TheVariants.{And, Or, Not}
 use Rattle.cdl_command.specs.declared.wiring.Source.{Source}
@@ -276,33 +280,58 @@ tree_block class tree block e =
           (λ j joined circuit. with_circuit tree d j block (circuit_of d j) refl circuit (named d tree.items declared) joined))
     ]
 
+-- A model's circuit has as many outputs as it declares.
+pub model_outputs : (class bytes : List ℕ) (block : GateBlock) → IsModel class bytes block → HasItsOutputs block
+model_outputs class bytes block m =
+    let b = tree_block class m.tree block m.is_block in
+    let are : b.j.outputs ≡ map Some block.circuit.outputs = outputs_joined block.declared b.j block.circuit b.is.circuit in
+    let places : HasPlaces block.declared b.j = places_all block.declared (no_joins block.declared) b.j (wires_of m.tree) b.is.joined (places_none block.declared) in
+    sym (length-map block.circuit.outputs Some) ∙ sym (ap length are) ∙ places.outputs
+
+words_count : (cs : List Column) (fs : List (List ℕ)) (ws : List ℤ) → AreWords cs fs ws → length ws ≡ length cs
+words_count [] [] [] h = refl
+words_count [] [] (w ∷ ws) h = absurd h
+words_count [] (f ∷ fs) ws h = absurd h
+words_count (c ∷ cs) [] ws h = absurd h
+words_count (c ∷ cs) (f ∷ fs) [] h = absurd h
+words_count (c ∷ cs) (f ∷ fs) (w ∷ ws) h = ap suc (words_count cs fs ws h.1)
+
+-- A row has a value for each input.
+row_width : (inputs : List (List ℕ)) (fs : List (List ℕ)) (ws : List ℤ) → AreWords (columns_of inputs) fs ws → length (row_values ws) ≡ length inputs
+row_width inputs fs ws h = length-map ws _ ∙ words_count (columns_of inputs) fs ws h ∙ length-map inputs boolean_column
+
 -- The trace that is computed is a trace, and the one.
-records_are : (d : Declarations) (ws : List Wire) (j : Joins) (block : GateBlock) (ticks : List Tick) → IsBlock d ws j block.circuit
-    → ((i : ℕ) (t : Tick) → i < length ticks → t ≡ get_or ticks i t → length t.values ≡ length d.inputs) → AreRecords d ws ticks (records_text block ticks)
-records_are d ws j block [] b wide = refl
-records_are d ws j block (tick ∷ ticks) b wide =
-    let s : HasSolution d ws tick.values = solution_solves d ws j block.circuit tick.values b (wide 0 tick (omega arith) refl) in (
+records_are : (d : Declarations) (ws : List Wire) (j : Joins) (block : GateBlock) (last : ℤ) (recs : List (List (List ℕ))) (rows : List TableRow) → IsBlock d ws j block.circuit
+    → columns_of d.outputs ≡ columns_of block.declared.outputs → AreRows (columns_of d.inputs) last recs rows → AreRecords d ws rows (records_text block rows)
+records_are d ws j block last [] [] b o are = refl
+records_are d ws j block last [] (row ∷ rows) b o are = absurd are
+records_are d ws j block last (r ∷ rs) [] b o are = absurd are
+records_are d ws j block last (r ∷ rs) (row ∷ rows) b o are =
+    let s : HasSolution d ws (row_values row.words) = solution_solves d ws j block.circuit (row_values row.words) b (row_width d.inputs are.0.cells row.words are.0.words) in (
       s.0,
-      records_text block ticks,
+      records_text block rows,
       s.1,
-      records_are d ws j block ticks b (λ i t within at. wide (suc i) t (omega arith) at),
-      ap (λ o. record_text tick.time o ++ records_text block ticks) (sym (solution_outputs d ws j block.circuit tick.values s.0 b s.1)),
+      records_are d ws j block row.time rs rows b o are.2,
+      ap (λ v. record_text (columns_of block.declared.outputs) row.time (words_of v) ++ records_text block rows) (sym (solution_outputs d ws j block.circuit (row_values row.words) s.0 b s.1))
+          ∙ ap (λ c. record_text c row.time (words_of (outputs_in s.0 d)) ++ records_text block rows) (sym o),
     )
 
-pub trace_is : (tree : FileTree) (block : GateBlock) (ticks : List Tick) → TreeBlock tree block
-    → ((i : ℕ) (t : Tick) → i < length ticks → t ≡ get_or ticks i t → length t.values ≡ length block.declared.inputs)
-    → IsTrace block.declared (wires_of tree) ticks (trace_text block ticks)
-trace_is tree block ticks b wide = (records_text block ticks, records_are block.declared (wires_of tree) b.j block ticks b.is wide, refl)
+pub trace_is : (tree : FileTree) (block : GateBlock) (rows : List TableRow) → TreeBlock tree block → (recs : List (List (List ℕ)))
+    → AreRows (columns_of block.declared.inputs) before_all recs rows → IsTrace block.declared (wires_of tree) rows (trace_text block rows)
+trace_is tree block rows b recs are =
+    (records_text block rows, records_are block.declared (wires_of tree) b.j block before_all recs rows b.is refl are, refl)
 
-one_of_records : (d : Declarations) (ws : List Wire) (j : Joins) (block : GateBlock) (ticks : List Tick) (text : List ℕ) → IsBlock d ws j block.circuit → AreRecords d ws ticks text
-    → text ≡ records_text block ticks
-one_of_records d ws j block [] text b are = are
-one_of_records d ws j block (tick ∷ ticks) text b are =
-    let head : outputs_in are.0 d ≡ output_values block.circuit tick.values = solution_outputs d ws j block.circuit tick.values are.0 b are.2 in
-    let tail : are.1 ≡ records_text block ticks = one_of_records d ws j block ticks are.1 b are.3 in
-    are.4 ∙ ap (λ o. record_text tick.time o ++ are.1) head ∙ ap (λ r. record_text tick.time (output_values block.circuit tick.values) ++ r) tail
+one_of_records : (d : Declarations) (ws : List Wire) (j : Joins) (block : GateBlock) (rows : List TableRow) (text : List ℕ) → IsBlock d ws j block.circuit
+    → columns_of d.outputs ≡ columns_of block.declared.outputs → AreRecords d ws rows text → text ≡ records_text block rows
+one_of_records d ws j block [] text b o are = are
+one_of_records d ws j block (row ∷ rows) text b o are =
+    let head : outputs_in are.0 d ≡ output_values block.circuit (row_values row.words) = solution_outputs d ws j block.circuit (row_values row.words) are.0 b are.2 in
+    let tail : are.1 ≡ records_text block rows = one_of_records d ws j block rows are.1 b o are.3 in
+    are.4 ∙ ap (λ v. record_text (columns_of d.outputs) row.time (words_of v) ++ are.1) head
+    ∙ ap (λ c. record_text c row.time (words_of (output_values block.circuit (row_values row.words))) ++ are.1) o
+    ∙ ap (λ r. record_text (columns_of block.declared.outputs) row.time (words_of (output_values block.circuit (row_values row.words))) ++ r) tail
 
-pub trace_is_one : (tree : FileTree) (block : GateBlock) (ticks : List Tick) (text : List ℕ) → TreeBlock tree block → IsTrace block.declared (wires_of tree) ticks text
-    → text ≡ trace_text block ticks
-trace_is_one tree block ticks text b is =
-    is.2 ∙ ap (λ r. header_text block.declared.outputs ++ r) (one_of_records block.declared (wires_of tree) b.j block ticks is.0 b.is is.1)
+pub trace_is_one : (tree : FileTree) (block : GateBlock) (rows : List TableRow) (text : List ℕ) → TreeBlock tree block → IsTrace block.declared (wires_of tree) rows text
+    → text ≡ trace_text block rows
+trace_is_one tree block rows text b is =
+    is.2 ∙ ap (λ r. header_text (columns_of block.declared.outputs) ++ r) (one_of_records block.declared (wires_of tree) b.j block rows is.0 b.is refl is.1)

@@ -4,16 +4,17 @@ use Rattle.std.specs.List.{list_any}
 use Rattle.std.specs.Option.{ForSome}
 use Rattle.cdl_source.specs.Outside.{written_after, DueBeginsWith}
 use Rattle.cdl_source.specs.Whole.{WritesSome}
+use Rattle.cdl_table.specs.TableRow.{TableRow}
 use Rattle.cdl_command.specs.Job.{Task, RunOf}
 use Rattle.cdl_command.specs.Outcome.{files_of}
-use Rattle.cdl_command.specs.IsTable.{IsTableText}
+use Rattle.cdl_command.specs.Tables.{IsTableText, IsNoTableText, BreaksFirst, IsOnlyFirst}
 use Rattle.cdl_command.specs.Model.{IsModel, IsNoModel}
 use Rattle.cdl_command.specs.Solution.{IsTrace, wires_of}
-use Rattle.cdl_command.specs.declared.table.Tick.{Tick}
 use Rattle.cdl_command.specs.declared.model.GateBlock.{GateBlock}
 use Rattle.cdl_command.specs.declared.outcome.Outcome.{Outcome}
 use Rattle.cdl_command.specs.declared.outcome.Outcome.TheVariants.{Done, Refused, Usage, RangeFault, ReadFault, WriteFault, OutOfMemory}
-use Rattle.cdl_command.specs.declared.outcome.Spot.TheVariants.{Source, Path, Cell}
+use Rattle.cdl_command.specs.declared.outcome.Spot.{Spot}
+use Rattle.cdl_command.specs.declared.outcome.Spot.TheVariants.{Source, Path}
 
 -- the contents of each name, where they are told
 abbrev pub Contents : Type 0
@@ -34,27 +35,29 @@ gate_run (RunOf class table (model ∷ [])) =
     if has_point class then None else Some (record { class = class; table = table; model = model })
 gate_run _ = None
 
--- what is not built: a job of another form, a model that is no block of gates, and bytes that are no table
+-- what is not built: a job of another form, and a model that is no block of gates
 abbrev pub job_refused : Outcome
 job_refused = Refused 9 (Path (codes "#"))
 
 abbrev pub model_refused : Outcome
 model_refused = Refused 9 (Source (record { file = 0; byte = 0 }))
 
-abbrev pub table_refused : Outcome
-table_refused = Refused 9 (Cell 1 1)
-
-abbrev pub IsNoTableText : List (List ℕ) → List ℕ → Type 0
-IsNoTableText inputs bytes = (ticks : List Tick) → IsTableText inputs bytes ticks → ⊥
+-- The outcome names the first rule of tables that the text breaks.
+pub record NamesBroken (inputs : List (List ℕ)) (bytes : List ℕ) (outcome : Outcome) : Type 0 where
+  pub rule : ℕ
+  pub spot : Spot
+  pub first : BreaksFirst inputs bytes rule spot
+  pub only : IsOnlyFirst inputs bytes rule spot
+  pub outcome_is : outcome ≡ Refused rule spot
 
 -- What a run answers to the bytes of its model, and to those of its table, where they are told: the outcome, and the text
 -- on standard output. The model is looked at first. A trace is told by the equations that the model's statements are.
 pub record AnswersRun (class model : List ℕ) (table : Option (List ℕ)) (outcome : Outcome) (text : List ℕ) : Type 0 where
   pub no_model : IsNoModel class model → (outcome ≡ model_refused) × (text ≡ [])
   pub no_table : (block : GateBlock) → IsModel class model block
-      → IfSome table (λ bytes. IsNoTableText block.declared.inputs bytes → (outcome ≡ table_refused) × (text ≡ []))
+      → IfSome table (λ bytes. IsNoTableText block.declared.inputs bytes → NamesBroken block.declared.inputs bytes outcome × (text ≡ []))
   pub done : (block : GateBlock) (m : IsModel class model block)
-      → IfSome table (λ bytes. (ticks : List Tick) → IsTableText block.declared.inputs bytes ticks → (outcome ≡ Done) × IsTrace block.declared (wires_of m.tree) ticks text)
+      → IfSome table (λ bytes. (rows : List TableRow) → IsTableText block.declared.inputs bytes rows → (outcome ≡ Done) × IsTrace block.declared (wires_of m.tree) rows text)
 
 -- the answer to a job, where the contents that it looks at are told
 abbrev pub Answers : Task → Contents → Outcome → List ℕ → Type 0

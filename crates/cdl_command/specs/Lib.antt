@@ -5,11 +5,8 @@ pub mod Parts
 pub mod Blocks
 pub mod Wiring
 pub mod Circuits
+pub mod Tables
 pub mod Rows
-pub mod Cells
-pub mod IsTable
-pub mod Table
-pub mod Trace
 pub mod Solution
 pub mod Model
 pub mod Runs

@@ -44,7 +44,16 @@ files_of (SampleOf n) = []
 
 -- the text of each rule
 abbrev pub rule_text : ℕ → List ℕ
-rule_text rule = if rule == 9 then codes "not built yet" else []
+rule_text rule =
+    if rule == 9 then codes "not built yet"
+    else if rule == 60 then codes "table too long"
+    else if rule == 61 then codes "wrong number of fields"
+    else if rule == 62 then codes "wrong header"
+    else if rule == 63 then codes "not a time"
+    else if rule == 64 then codes "time doesn't rise"
+    else if rule == 65 then codes "not a value of its type"
+    else if rule == 66 then codes "too many ticks"
+    else []
 
 -- NAME:LINE:COLUMN
 abbrev pub position_text : List ℕ → ℕ → ℕ → List ℕ

@@ -2,14 +2,16 @@
 use Rattle.std.specs.Prelude.{◌≡◌, ◌⊎◌, ℕ, ◌&&◌, ◌||◌, not, Bool, List, [], ◌∷◌, ◌++◌, map, codes, Some}
 use Rattle.std.specs.List.{All}
 use Rattle.cdl_parse.specs.declared.tree.FileTree.{FileTree}
+use Rattle.cdl_table.specs.TableRow.{TableRow}
+use Rattle.cdl_table.specs.Trace.{header_text, record_text}
 use Rattle.cdl_command.specs.Blocks.{Declarations}
-use Rattle.cdl_command.specs.Trace.{header_text, record_text}
+use Rattle.cdl_command.specs.Rows.{values_of, words_of}
+use Rattle.cdl_command.specs.Tables.{columns_of}
 use Rattle.cdl_command.specs.Wiring.{Wire, wire_of, source_of, sink_of}
 use Rattle.cdl_command.specs.declared.part.GateKind.{GateKind}
 use Rattle.cdl_command.specs.declared.part.GateKind.TheVariants.{And, Or, Not}
 use Rattle.cdl_command.specs.declared.wiring.Source.{Source}
 use Rattle.cdl_command.specs.declared.wiring.Sink.{Sink}
-use Rattle.cdl_command.specs.declared.table.Tick.{Tick}
 
 -- A connector is named by its identifiers: an own connector by one, and that of a gate by the gate's and its own.
 -- A valuation gives each connector a value.
@@ -56,12 +58,13 @@ HasSolution d wires row = (v : Valuation) × Solves d wires row v
 abbrev pub OneSolution : Declarations → List Wire → List Bool → Type 0
 OneSolution d wires row = (v w : Valuation) → Solves d wires row v → Solves d wires row w → (c : List (List ℕ)) → IsConnector d c → v c ≡ w c
 
--- the records of these ticks: each has the tick's time and the values of the outputs in a solution
-abbrev pub AreRecords : Declarations → List Wire → List Tick → List ℕ → Type 0
+-- the records of these rows: each has the row's time and the values of the outputs in a solution
+abbrev pub AreRecords : Declarations → List Wire → List TableRow → List ℕ → Type 0
 AreRecords d wires [] text = text ≡ []
-AreRecords d wires (tick ∷ ticks) text =
-    (v : Valuation) × (rest : List ℕ) × Solves d wires tick.values v × AreRecords d wires ticks rest × (text ≡ record_text tick.time (outputs_in v d) ++ rest)
+AreRecords d wires (row ∷ rows) text =
+    (v : Valuation) × (rest : List ℕ) × Solves d wires (values_of row.words) v × AreRecords d wires rows rest
+    × (text ≡ record_text (columns_of d.outputs) row.time (words_of (outputs_in v d)) ++ rest)
 
--- the trace of a block over these ticks: the header, and a record for each tick
-abbrev pub IsTrace : Declarations → List Wire → List Tick → List ℕ → Type 0
-IsTrace d wires ticks text = (records : List ℕ) × AreRecords d wires ticks records × (text ≡ header_text d.outputs ++ records)
+-- the trace of a block over these rows: the header, and a record for each row
+abbrev pub IsTrace : Declarations → List Wire → List TableRow → List ℕ → Type 0
+IsTrace d wires rows text = (records : List ℕ) × AreRecords d wires rows records × (text ≡ header_text (columns_of d.outputs) ++ records)

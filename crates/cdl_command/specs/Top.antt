@@ -4,16 +4,8 @@ use Rattle.cdl_command.specs.Job.{Task}
 use Rattle.cdl_command.specs.Outcome.{usage_text}
 use Rattle.cdl_command.specs.Answer.{Contents, gate_run, OutAfter, ModelFirst}
 use Rattle.cdl_command.specs.Told.{Tells, Reports}
-use Rattle.cdl_command.specs.declared.run.Stop.{Stop}
-use Rattle.cdl_command.specs.declared.run.Stop.TheVariants as stop
-use Rattle.cdl_command.specs.declared.outcome.Spot.{Spot}
 use Rattle.cdl_command.specs.declared.outcome.Outcome.{Outcome}
-use Rattle.cdl_command.specs.declared.outcome.Outcome.TheVariants.{Refused, Usage, ReadFault, WriteFault, OutOfMemory}
-
-abbrev pub outcome_of_stop : Spot → Stop → Outcome
-outcome_of_stop spot stop.Refused = Refused 9 spot
-outcome_of_stop spot stop.ReadFault = ReadFault
-outcome_of_stop spot stop.OutOfMemory = OutOfMemory
+use Rattle.cdl_command.specs.declared.outcome.Outcome.TheVariants.{Usage, ReadFault, WriteFault}
 
 -- Words that are no job, and jobs that aren't built, begin no file. A run begins its model and its table at the most.
 abbrev pub FewBegun : Option Task → ℕ → ℕ → Type 0

@@ -11,9 +11,7 @@ mod names;
 mod outcome;
 mod part;
 mod report;
-mod rows;
 mod run;
-mod table;
 mod top;
 mod trace;
 mod wiring;
@@ -24,7 +22,5 @@ pub use laws::one_solution;
 pub use outcome::{Outcome, Spot};
 pub use top::command;
 
-#[cfg(test)]
-mod table_tests;
 #[cfg(test)]
 mod tests;

@@ -128,7 +128,17 @@ fn push_spot(
 fn rule_text(rule: u32) -> &'static [u8]
     ensures { result.now ≡ spec.rule_text rule }
 {
-    if rule == 9 { b"not built yet" } else { b"" }
+    match rule {
+        9 => b"not built yet",
+        60 => b"table too long",
+        61 => b"wrong number of fields",
+        62 => b"wrong header",
+        63 => b"not a time",
+        64 => b"time doesn't rise",
+        65 => b"not a value of its type",
+        66 => b"too many ticks",
+        _ => b"",
+    }
 }
 
 // The text of a refusal.

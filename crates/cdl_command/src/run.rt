@@ -1,16 +1,16 @@
-// The run of a block of logical gates over a table.
-ghost use Rattle.std.specs.Prelude.{◌≡◌, ◌+◌, ◌-◌, ◌^◌, ◌≤◌, ◌<◌, IfOk, IfErr, OnOk, OnErr, IsErrOf};
+// Reading the model and the table of a run.
+ghost use Rattle.std.specs.Prelude.{◌≡◌, ◌+◌, ◌-◌, ◌^◌, ◌≤◌, ◌<◌, IfOk, IfErr, OnOk};
 ghost use Rattle.std.specs.Io.KnownBytes.{IsAtEnd};
 ghost use Rattle.cdl_source.specs.Causes.{Rose};
-ghost use Rattle.cdl_source.specs.Outside.{IsNextDue, due_after, written_after};
-ghost use Rattle.cdl_source.specs.Whole.{WritesSome};
-ghost use Rattle.cdl_command.specs.Runs.{tick_text, trace_text};
-ghost use Rattle.cdl_command.specs.Stops.{Stops, IsModelRead, IsTableRead, IsModelRefused, IsTableRefused};
+ghost use Rattle.cdl_source.specs.Outside.{IsNextDue, due_after};
+ghost use Rattle.cdl_command.specs.Runs.{HasItsOutputs};
+ghost use Rattle.cdl_command.specs.Stops.{Stops, IsModelRead, IsTableRead, IsModelRefused, IsTableRefused, first_byte, stop_of};
 
 use crate::model::{GateBlock, model_of};
-use crate::table::{Table, TableFault, Tick};
-use crate::trace::{TraceError, write_header, write_record};
-use cdl_source::{Files, OutOfMemory, ReadError, Sink, Text, read_whole};
+use crate::outcome::Spot;
+use crate::trace::boolean_columns;
+use cdl_source::{Files, OutOfMemory, Place, ReadError, Text, read_whole};
+use cdl_table::{Table, TableFault};
 use std::alloc::Global;
 
 // The most bytes of a model and of a table.
@@ -18,11 +18,16 @@ const LONGEST_MODEL: usize = 524_288;
 
 const LONGEST_TABLE: usize = 33_554_432;
 
+// The rule that is broken by what is not built yet, and that of a table's length.
+pub(crate) const NOT_BUILT: u32 = 9;
+
+const TABLE_TOO_LONG: u32 = 60;
+
 /// Why a file gave no model or no table.
-#[derive(Clone, Copy, Debug, PartialEq, Eq)]
+#[derive(Debug, Drop)]
 pub(crate) enum Stop {
-    /// Its bytes are none.
-    Refused,
+    /// Its bytes break this rule first, here.
+    Refused { rule: u32, spot: Spot },
     ReadFault,
     OutOfMemory,
 }
@@ -38,19 +43,22 @@ impl From<OutOfMemory> for Stop {
     }
 }
 
-impl From<ReadError> for Stop {
-    ghost use Rattle.cdl_command.specs.Stops.{stop_of};
-    ghost use Rattle.std.specs.Prelude.{◌≡◌};
-
-    ghost from_gives = { λ e s. s ≡ stop_of e };
-
-    fn from(e: ReadError) -> Self {
-        match e {
-            ReadError::Failed => Stop::ReadFault,
-            ReadError::TooLarge { head: _ } => Stop::Refused,
-            ReadError::OutOfMemory => Stop::OutOfMemory,
-        }
+// What a file that was not read whole is answered with, where this rule at this spot limits its length.
+fn not_whole(e: ReadError, rule: u32, spot: Spot) -> Stop
+    ensures { result ≡ stop_of rule spot e }
+{
+    match e {
+        ReadError::Failed => Stop::ReadFault,
+        ReadError::TooLarge { head: _ } => Stop::Refused { rule, spot },
+        ReadError::OutOfMemory => Stop::OutOfMemory,
     }
+}
+
+// The spot of a model that is not built.
+fn model_start() -> Spot
+    ensures { result ≡ first_byte }
+{
+    Spot::Source(Place { file: 0, byte: 0 })
 }
 
 /// Reads a model of this class.
@@ -67,12 +75,19 @@ pub(crate) fn read_model<F: Files>(
     ensures contents { F.contents files.new ≡ F.contents files.old }
     ensures later { F.faults files.old ≤ F.faults files.new }
     ensures ok { IfOk result (IsModelRead class.now (F.contents files.old name.now)) }
+    ensures outputs { IfOk result HasItsOutputs }
     ensures err { IfErr result (Stops (Rose (F.faults files.old) (F.faults files.new)) (IsModelRefused class.now (F.contents files.old name.now))) }
 {
-    let text = read_whole(alloc, files, name, LONGEST_MODEL)?;
+    let text = match read_whole(alloc, files, name, LONGEST_MODEL) {
+        Ok(text) => text,
+        Err(e) => return Err(not_whole(e, NOT_BUILT, model_start())),
+    };
     match model_of(alloc, class, text.bytes())? {
         Some(block) => Ok(block),
-        None => Err(Stop::Refused),
+        None => Err(Stop::Refused {
+            rule: NOT_BUILT,
+            spot: model_start(),
+        }),
     }
 }
 
@@ -93,45 +108,17 @@ pub(crate) fn read_table<F: Files>(
     ensures end { OnOk result (IsAtEnd (F.rest files.new)) }
     ensures err { IfErr result (Stops (Rose (F.faults files.old) (F.faults files.new)) (IsTableRefused inputs.now (F.contents files.old name.now))) }
 {
-    let text = read_whole(alloc, files, name, LONGEST_TABLE)?;
-    match Table::read(alloc, text.bytes(), inputs) {
+    let text = match read_whole(alloc, files, name, LONGEST_TABLE) {
+        Ok(text) => text,
+        Err(e) => return Err(not_whole(e, TABLE_TOO_LONG, Spot::Whole)),
+    };
+    let columns = boolean_columns(alloc, inputs)?;
+    match Table::check(alloc, text.bytes(), &columns) {
         Ok(table) => Ok(table),
-        Err(TableFault::NotATable) => Err(Stop::Refused),
+        Err(TableFault::Rule { rule, row, column }) => Err(Stop::Refused {
+            rule,
+            spot: Spot::Cell { row, column },
+        }),
         Err(TableFault::OutOfMemory) => Err(Stop::OutOfMemory),
     }
-}
-
-// Writes the record of one tick.
-fn write_tick<O: Sink>(
-    alloc: Global,
-    block: &GateBlock,
-    tick: &Tick,
-    out: &mut O,
-) -> Result<(), TraceError>
-    ensures ok { OnOk result (O.written out.new ≡ written_after (O.written out.old) (tick_text block.now tick.now)) }
-    ensures err { OnErr result (WritesSome (O.written out.old) (O.written out.new) (tick_text block.now tick.now)) }
-    ensures later { O.faults out.old ≤ O.faults out.new }
-    ensures fault { IsErrOf result TraceError.WriteFault → Rose (O.faults out.old) (O.faults out.new) }
-{
-    let values = block.circuit.output_values(alloc, tick.values.items())?;
-    write_record(alloc, tick.time, &values, out)
-}
-
-/// Writes the trace of these ticks, record by record.
-pub(crate) fn write_trace<O: Sink>(
-    alloc: Global,
-    block: &GateBlock,
-    ticks: &[Tick],
-    out: &mut O,
-) -> Result<(), TraceError>
-    ensures ok { OnOk result (O.written out.new ≡ written_after (O.written out.old) (trace_text block.now ticks.now)) }
-    ensures err { OnErr result (WritesSome (O.written out.old) (O.written out.new) (trace_text block.now ticks.now)) }
-    ensures later { O.faults out.old ≤ O.faults out.new }
-    ensures fault { IsErrOf result TraceError.WriteFault → Rose (O.faults out.old) (O.faults out.new) }
-{
-    write_header(alloc, block.declared.outputs(), out)?;
-    for tick in ticks {
-        write_tick(alloc, block, tick, out)?;
-    }
-    Ok(())
 }

@@ -1,7 +1,8 @@
 ghost use Rattle.std.specs.Prelude.{◌≡◌, IfOk};
 
 use super::*;
-use cdl_source::{MemFiles, MemSink};
+use cdl_source::{MemFiles, MemSink, Text};
+use itoa::Buffer;
 use std::alloc::Global;
 use std::process::Abort;
 use std::test::Fail;
@@ -33,9 +34,7 @@ const LOOP: &str =
 
 const NO_MODEL: &str = "m.mo:1:1: C9 not built yet\n";
 
-const NO_TABLE: &str = "t.csv:1:1: C9 not built yet\n";
-
-const CASES: [Case; 22] = [
+const CASES: [Case; 16] = [
     Case {
         words: RUN,
         model: "block M Buildings.Controls.OBC.CDL.Interfaces.BooleanInput a; Buildings.Controls.OBC.CDL.Interfaces.BooleanInput b; Buildings.Controls.OBC.CDL.Interfaces.BooleanInput c; Buildings.Controls.OBC.CDL.Interfaces.BooleanOutput y; Buildings.Controls.OBC.CDL.Logical.And p; Buildings.Controls.OBC.CDL.Logical.And q; Buildings.Controls.OBC.CDL.Logical.And r; Buildings.Controls.OBC.CDL.Logical.Or s; Buildings.Controls.OBC.CDL.Logical.Or t; equation connect(a, p.u1); connect(b, p.u2); connect(b, q.u1); connect(c, q.u2); connect(a, r.u1); connect(c, r.u2); connect(p.y, s.u1); connect(q.y, s.u2); connect(s.y, t.u1); connect(r.y, t.u2); connect(t.y, y); end M;",
@@ -58,14 +57,6 @@ const CASES: [Case; 22] = [
         table: TABLE,
         code: 0,
         out: TRACE,
-        err: "",
-    },
-    Case {
-        words: RUN,
-        model: GATES,
-        table: "time,u1,u2\n",
-        code: 0,
-        out: "time,y\n",
         err: "",
     },
     Case {
@@ -107,46 +98,6 @@ const CASES: [Case; 22] = [
         code: 1,
         out: "",
         err: NO_MODEL,
-    },
-    Case {
-        words: RUN,
-        model: GATES,
-        table: "",
-        code: 1,
-        out: "",
-        err: NO_TABLE,
-    },
-    Case {
-        words: RUN,
-        model: GATES,
-        table: "time,u2,u1\n",
-        code: 1,
-        out: "",
-        err: NO_TABLE,
-    },
-    Case {
-        words: RUN,
-        model: GATES,
-        table: "time,u1,u2\n0,true\n",
-        code: 1,
-        out: "",
-        err: NO_TABLE,
-    },
-    Case {
-        words: RUN,
-        model: GATES,
-        table: "time,u1,u2\n0,true,yes\n",
-        code: 1,
-        out: "",
-        err: NO_TABLE,
-    },
-    Case {
-        words: RUN,
-        model: GATES,
-        table: "time,u1,u2\n10000000000000,1,0\n",
-        code: 0,
-        out: "time,y\n10000000000000,true\n",
-        err: "",
     },
     Case {
         words: "run M t.csv none.mo",
@@ -212,6 +163,117 @@ const CASES: [Case; 22] = [
         out: "",
         err: USAGE_LINE,
     },
+];
+
+// Tables of the inputs `u1` and `u2`. Each with its trace, or with the rule that is broken first and its cell: each rule
+// beside the nearest table that keeps it, and then two rules at once.
+const TABLES: [(&str, &str, &str); 32] = [
+    ("time,u1,u2\n", "time,y\n", ""),
+    (
+        "\u{feff}\n\"time\",u1,u2\r\n\r\n\"0\",0,0\r5,1,0\n\n7,0,\"1",
+        "time,y\n0,false\n5,true\n7,true\n",
+        "",
+    ),
+    (
+        "time,u1,u2\n0,true\n",
+        "",
+        "2:1: C61 wrong number of fields",
+    ),
+    ("time,u1,u2\n0,true,1\n", "time,y\n0,true\n", ""),
+    (
+        "time,u1,u2\n0,true,1,1\n",
+        "",
+        "2:1: C61 wrong number of fields",
+    ),
+    ("", "", "1:1: C62 wrong header"),
+    ("\n\r\n", "", "1:1: C62 wrong header"),
+    ("u1,u2\n", "", "1:1: C62 wrong header"),
+    ("time,u2,u1\n", "", "1:2: C62 wrong header"),
+    ("time,u1\n", "", "1:3: C62 wrong header"),
+    ("time,u1,u2,\n", "", "1:4: C62 wrong header"),
+    ("time,u1,u2\n1.5,true,true\n", "", "2:1: C63 not a time"),
+    ("time,u1,u2\n15,true,true\n", "time,y\n15,true\n", ""),
+    (
+        "time,u1,u2\n10000000000000,1,0\n",
+        "time,y\n10000000000000,true\n",
+        "",
+    ),
+    (
+        "time,u1,u2\n10000000000001,1,0\n",
+        "",
+        "2:1: C63 not a time",
+    ),
+    (
+        "time,u1,u2\n5,true,true\n5,true,true\n",
+        "",
+        "3:1: C64 time doesn't rise",
+    ),
+    (
+        "time,u1,u2\n\n5,1,1\n\n4,1,1\n",
+        "",
+        "3:1: C64 time doesn't rise",
+    ),
+    (
+        "time,u1,u2\n5,true,true\n6,true,true\n",
+        "time,y\n5,true\n6,true\n",
+        "",
+    ),
+    (
+        "time,u1,u2\n0,true,yes\n",
+        "",
+        "2:3: C65 not a value of its type",
+    ),
+    (
+        "time,u1,u2\n0,TRUE,1\n",
+        "",
+        "2:2: C65 not a value of its type",
+    ),
+    (
+        "time,u1,u2\n0,1,1 \n",
+        "",
+        "2:3: C65 not a value of its type",
+    ),
+    // Two rules in one record.
+    (
+        "time,u1,u2\nx,true\n",
+        "",
+        "2:1: C61 wrong number of fields",
+    ),
+    ("time,u1,u2\n0,yes\n", "", "2:1: C61 wrong number of fields"),
+    ("time,u1,u2\nx,yes,1\n", "", "2:1: C63 not a time"),
+    (
+        "time,u1,u2\n5,1,1\n5,yes,1\n",
+        "",
+        "3:1: C64 time doesn't rise",
+    ),
+    (
+        "time,u1,u2\n0,yes,no\n",
+        "",
+        "2:2: C65 not a value of its type",
+    ),
+    // Two rules in two records, in both orders.
+    ("time,u1\nx,1,1\n", "", "1:3: C62 wrong header"),
+    (
+        "time,u1,u2\n0,1\nx,1,1\n",
+        "",
+        "2:1: C61 wrong number of fields",
+    ),
+    ("time,u1,u2\nx,1,1\n0,1\n", "", "2:1: C63 not a time"),
+    (
+        "time,u1,u2\n5,1,yes\n5,1,1\n",
+        "",
+        "2:3: C65 not a value of its type",
+    ),
+    (
+        "time,u1,u2\n5,1,1\n5,1,1\n6,1,yes\n",
+        "",
+        "3:1: C64 time doesn't rise",
+    ),
+    (
+        "time,u1,u2\n5,1,1\n6,1,yes\n6,1\n",
+        "",
+        "3:3: C65 not a value of its type",
+    ),
 ];
 
 // Texts, and whether they are a model: each rule is broken alone beside the nearest text that keeps it.
@@ -310,32 +372,107 @@ fn words_of(alloc: Global, text: &str) -> Result<Vec<String>, Fail> {
     Ok(words)
 }
 
-fn files_of(alloc: Global, case: &Case) -> Result<MemFiles, Fail>
+fn files_of(alloc: Global, model: &str, table: &[u8]) -> Result<MemFiles, Fail>
     ensures { IfOk result (λ files. files.begun ≡ 0) }
 {
     let mut files = MemFiles::new(alloc);
-    files.put("m.mo", case.model.as_bytes())?;
-    files.put("t.csv", case.table.as_bytes())?;
+    files.put("m.mo", model.as_bytes())?;
+    files.put("t.csv", table)?;
     Ok(files)
 }
 
 fn ends_so(rt: &impl Abort, alloc: Global, case: &Case) -> Result<(), Fail> {
     let words = words_of(alloc, case.words)?;
-    let mut files = files_of(alloc, case)?;
+    let mut files = files_of(alloc, case.model, case.table.as_bytes())?;
     let mut out = MemSink::new(alloc, 7, 4096)?;
     let mut err = MemSink::new(alloc, 4096, 4096)?;
     let outcome = command(alloc, &words, &mut files, &mut out, &mut err);
-    assert_eq!(rt; outcome.code(), case.code);
-    assert_eq!(rt; out.bytes(), case.out.as_bytes());
     assert_eq!(rt; err.bytes(), case.err.as_bytes());
+    assert_eq!(rt; out.bytes(), case.out.as_bytes());
+    assert_eq!(rt; outcome.code(), case.code);
     Ok(())
+}
+
+// The run of a table ends with this trace, or with this refusal.
+fn table_ends_so(
+    rt: &impl Abort,
+    alloc: Global,
+    table: &[u8],
+    out: &str,
+    refusal: &str,
+) -> Result<(), Fail> {
+    let mut text = Text::new(alloc);
+    if !refusal.is_empty() {
+        text.push(b"t.csv:")?;
+        text.push(refusal.as_bytes())?;
+        text.push(b"\n")?;
+    }
+    let words = words_of(alloc, RUN)?;
+    let mut files = files_of(alloc, GATES, table)?;
+    let mut trace = MemSink::new(alloc, 7, 4096)?;
+    let mut err = MemSink::new(alloc, 4096, 4096)?;
+    let outcome = command(alloc, &words, &mut files, &mut trace, &mut err);
+    let code = if refusal.is_empty() { 0 } else { 1 };
+    assert_eq!(rt; err.bytes(), text.bytes());
+    assert_eq!(rt; trace.bytes(), out.as_bytes());
+    assert_eq!(rt; outcome.code(), code);
+    Ok(())
+}
+
+// A table of 33,554,432 bytes without a row: behind the header stand blank lines.
+fn longest_table(alloc: Global) -> Result<Text, Fail> {
+    let lines = [b'\n'; 4096];
+    let mut table = Text::new(alloc);
+    table.push(b"time,u1,u2\n")?;
+    table.push(&lines[..4085])?;
+    for _ in 0..8191 {
+        table.push(&lines)?;
+    }
+    Ok(table)
+}
+
+// A table of 1,000,001 rows: the last one is too many.
+fn table_of_many_rows(alloc: Global) -> Result<Text, Fail> {
+    let mut table = Text::new(alloc);
+    table.push(b"time,u1,u2\n")?;
+    for time in 0..1_000_001u32 {
+        let mut digits = Buffer::new();
+        table.push(digits.format(time).as_bytes())?;
+        table.push(b",1,0\n")?;
+    }
+    Ok(table)
 }
 
 #[test]
 fn jobs_end_so(rt: HostRuntime) -> Result<(), Fail> {
+    let alloc = rt.alloc();
     for case in CASES.iter() {
-        ends_so(&rt, rt.alloc(), case)?;
+        ends_so(&rt, alloc, case)?;
     }
+    for (table, out, refusal) in TABLES.iter() {
+        table_ends_so(&rt, alloc, table.as_bytes(), out, refusal)?;
+    }
+    let mut table = longest_table(alloc)?;
+    table_ends_so(&rt, alloc, table.bytes(), "time,y\n", "")?;
+    table.push(b"\n")?;
+    table_ends_so(&rt, alloc, table.bytes(), "", " C60 table too long")?;
+    let many = table_of_many_rows(alloc)?;
+    table_ends_so(
+        &rt,
+        alloc,
+        many.bytes(),
+        "",
+        "1000002:1: C66 too many ticks",
+    )?;
+    let words = words_of(alloc, RUN)?;
+    let mut files = files_of(alloc, GATES, TABLE.as_bytes())?;
+    let mut out = MemSink::new(alloc, 4, 4096)?;
+    out.fail(2)?;
+    let mut err = MemSink::new(alloc, 4096, 4096)?;
+    let outcome = command(alloc, &words, &mut files, &mut out, &mut err);
+    assert_eq!(rt; outcome.code(), 5);
+    assert_eq!(rt; out.bytes(), b"time".as_slice());
+    assert_eq!(rt; err.bytes(), b"write fault\n".as_slice());
     Ok(())
 }
 
@@ -344,29 +481,12 @@ fn models_keep_each_rule(rt: HostRuntime) -> Result<(), Fail> {
     let alloc = rt.alloc();
     for (model, is_one) in MODELS.iter() {
         let words = words_of(alloc, RUN)?;
-        let mut files = MemFiles::new(alloc);
-        files.put("m.mo", model.as_bytes())?;
-        files.put("t.csv", b"time,u\n5,1\n")?;
+        let mut files = files_of(alloc, model, b"time,u\n5,1\n")?;
         let mut out = MemSink::new(alloc, 64, 64)?;
         let mut err = MemSink::new(alloc, 64, 64)?;
         let outcome = command(alloc, &words, &mut files, &mut out, &mut err);
         let code = if *is_one { 0 } else { 1 };
         assert_eq!(rt; outcome.code(), code, "{model}");
     }
-    Ok(())
-}
-
-#[test]
-fn a_full_sink_is_a_write_fault(rt: HostRuntime) -> Result<(), Fail> {
-    let alloc = rt.alloc();
-    let words = words_of(alloc, RUN)?;
-    let mut files = files_of(alloc, &CASES[2])?;
-    let mut out = MemSink::new(alloc, 4, 4096)?;
-    out.fail(2)?;
-    let mut err = MemSink::new(alloc, 4096, 4096)?;
-    let outcome = command(alloc, &words, &mut files, &mut out, &mut err);
-    assert_eq!(rt; outcome.code(), 5);
-    assert_eq!(rt; out.bytes(), b"time".as_slice());
-    assert_eq!(rt; err.bytes(), b"write fault\n".as_slice());
     Ok(())
 }

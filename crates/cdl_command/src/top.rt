@@ -8,18 +8,17 @@ ghost use Rattle.cdl_command.specs.Job.{task_of, task_of_job, RunOf};
 ghost use Rattle.cdl_command.specs.Outcome.{files_of};
 ghost use Rattle.cdl_command.specs.Answer.{DueOf, Result, job_refused};
 ghost use Rattle.cdl_command.specs.Answer.{has_point};
-ghost use Rattle.cdl_command.specs.Top.{Works, outcome_of_stop, OutAfterWords, ErrAfterWords, ModelFirstOf, FewBegun};
+ghost use Rattle.cdl_command.specs.Stops.{outcome_of_stop};
+ghost use Rattle.cdl_command.specs.Top.{Works, OutAfterWords, ErrAfterWords, ModelFirstOf, FewBegun};
 
 use crate::job::{self, Job};
 use crate::outcome::{Outcome, Spot};
 use crate::report::{report, usage};
-use crate::run::{Stop, read_model, read_table, write_trace};
-use crate::trace::TraceError;
-use cdl_source::{Files, OutOfMemory, Place, Sink, Text};
+use crate::run::{NOT_BUILT, Stop, read_model, read_table};
+use crate::trace::write_trace;
+use cdl_source::{Files, OutOfMemory, Sink, Text};
+use cdl_table::TraceError;
 use std::alloc::Global;
-
-// The rule that is broken by what is not built yet.
-const NOT_BUILT: u32 = 9;
 
 /// Does what the words ask for, which are those after the program's name: reads files, writes what is due on `out`, and
 /// then the text of the outcome on `err`. docs/COMMAND.md has the verbs, the outcomes and their texts.
@@ -113,14 +112,11 @@ fn not_built(alloc: Global) -> Outcome
     }
 }
 
-fn stopped(stop: Stop, spot: Spot) -> Outcome
-    ensures { result ≡ outcome_of_stop spot stop }
+fn stopped(stop: Stop) -> Outcome
+    ensures { result ≡ outcome_of_stop stop }
 {
     match stop {
-        Stop::Refused => Outcome::Refused {
-            rule: NOT_BUILT,
-            spot,
-        },
+        Stop::Refused { rule, spot } => Outcome::Refused { rule, spot },
         Stop::ReadFault => Outcome::ReadFault,
         Stop::OutOfMemory => Outcome::OutOfMemory,
     }
@@ -148,13 +144,13 @@ fn run<F: Files, O: Sink>(
 {
     let block = match read_model(alloc, files, class, model) {
         Ok(block) => block,
-        Err(stop) => return stopped(stop, Spot::Source(Place { file: 0, byte: 0 })),
+        Err(stop) => return stopped(stop),
     };
     let table = match read_table(alloc, files, table, block.declared.inputs()) {
         Ok(table) => table,
-        Err(stop) => return stopped(stop, Spot::Cell { row: 1, column: 1 }),
+        Err(stop) => return stopped(stop),
     };
-    match write_trace(alloc, &block, table.ticks(), out) {
+    match write_trace(alloc, &block, &table, out) {
         Ok(()) => Outcome::Done,
         Err(TraceError::WriteFault) => Outcome::WriteFault,
         Err(TraceError::OutOfMemory) => Outcome::OutOfMemory,

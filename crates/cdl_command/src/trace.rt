@@ -1,121 +1,98 @@
-// Traces of Boolean outputs.
+// The trace of a block of logical gates over the rows of a table.
 ghost use Rattle.std.specs.Prelude.{◌≡◌, ◌≤◌, IfOk, IsErrOf, OnOk, OnErr};
-ghost use Rattle.csv.specs.Records.{fields_of};
-ghost use Rattle.csv.specs.Writing.{default_writer, row_text};
 ghost use Rattle.cdl_source.specs.Causes.{Rose};
 ghost use Rattle.cdl_source.specs.Outside.{written_after};
 ghost use Rattle.cdl_source.specs.Whole.{WritesSome};
-ghost use Rattle.cdl_command.specs.Trace.{boolean_text, header_text, record_text};
+ghost use Rattle.cdl_command.specs.Rows as spec;
+ghost use Rattle.cdl_command.specs.Runs.{HasItsOutputs, tick_text, trace_text};
+ghost use Rattle.cdl_command.specs.Tables.{columns_of};
 
-use cdl_source::{Failed, OutOfMemory, Sink, Text, write_whole};
-use csv::{ByteRecord, WriterBuilder};
-use itoa::Buffer;
-use std::alloc::{AllocError, Global};
+use crate::model::GateBlock;
+use cdl_kinds::ValueType;
+use cdl_kinds::words::{bit, is_one};
+use cdl_source::{List, OutOfMemory, Sink, Text};
+use cdl_table::{Column, Table, TraceError, TraceWriter};
+use std::alloc::Global;
 
-/// Why a record of a trace was not written whole.
-#[derive(Clone, Copy, Debug, PartialEq, Eq)]
-pub enum TraceError {
-    /// The sink failed.
-    WriteFault,
-    OutOfMemory,
-}
-
-impl From<OutOfMemory> for TraceError {
-    ghost use Rattle.std.specs.Prelude.{◌≡◌};
-    ghost use Rattle.cdl_command.specs.declared.trace.TraceError.TheVariants.{OutOfMemory as no_memory};
-
-    ghost from_gives = { λ _ e. e ≡ no_memory };
-
-    fn from(_: OutOfMemory) -> Self {
-        TraceError::OutOfMemory
-    }
-}
-
-impl From<AllocError> for TraceError {
-    ghost use Rattle.std.specs.Prelude.{◌≡◌};
-    ghost use Rattle.cdl_command.specs.declared.trace.TraceError.TheVariants.{OutOfMemory as no_memory};
-
-    ghost from_gives = { λ _ e. e ≡ no_memory };
-
-    fn from(_: AllocError) -> Self {
-        TraceError::OutOfMemory
-    }
-}
-
-impl From<Failed> for TraceError {
-    ghost use Rattle.std.specs.Prelude.{◌≡◌};
-    ghost use Rattle.cdl_command.specs.declared.trace.TraceError.TheVariants.{WriteFault as fault};
-
-    ghost from_gives = { λ _ e. e ≡ fault };
-
-    fn from(_: Failed) -> Self {
-        TraceError::WriteFault
-    }
-}
-
-/// Writes the first record of a trace, `time` and the names of its outputs, by one `write_whole`. `WriteFault` comes
-/// only where the sink failed. At an error a prefix of the record was written.
-pub fn write_header<S: Sink>(
-    alloc: Global,
-    outputs: &[Text],
-    sink: &mut S,
-) -> Result<(), TraceError>
-    ensures ok { OnOk result (S.written sink.new ≡ written_after (S.written sink.old) (header_text outputs.now)) }
-    ensures err { OnErr result (WritesSome (S.written sink.old) (S.written sink.new) (header_text outputs.now)) }
-    ensures later { S.faults sink.old ≤ S.faults sink.new }
-    ensures fault { IsErrOf result TraceError.WriteFault → Rose (S.faults sink.old) (S.faults sink.new) }
+/// The columns of Boolean connectors with these names.
+pub(crate) fn boolean_columns(alloc: Global, names: &[Text]) -> Result<List<Column>, OutOfMemory>
+    ensures { IfOk result (λ columns. columns ≡ columns_of names.now) }
 {
-    let mut fields = ByteRecord::new(alloc);
-    fields.push_field(b"time")?;
-    for output in outputs {
-        fields.push_field(output.bytes())?;
+    let mut columns = List::new(alloc);
+    for name in names {
+        let mut copy = Text::new(alloc);
+        copy.push(name.bytes())?;
+        columns.push(Column {
+            name: copy,
+            kind: ValueType::Boolean,
+        })?;
     }
-    let text = record_bytes(alloc, &fields)?;
-    write_whole(sink, text.as_slice())?;
-    Ok(())
+    Ok(columns)
 }
 
-/// Writes the record of one tick, its time in milliseconds and its values as `true` and `false`, by one `write_whole`.
-/// `WriteFault` comes only where the sink failed. At an error a prefix of the record was written.
-pub fn write_record<S: Sink>(
-    alloc: Global,
-    time: u64,
-    values: &[bool],
-    sink: &mut S,
-) -> Result<(), TraceError>
-    ensures ok { OnOk result (S.written sink.new ≡ written_after (S.written sink.old) (record_text time values.now)) }
-    ensures err { OnErr result (WritesSome (S.written sink.old) (S.written sink.new) (record_text time values.now)) }
-    ensures later { S.faults sink.old ≤ S.faults sink.new }
-    ensures fault { IsErrOf result TraceError.WriteFault → Rose (S.faults sink.old) (S.faults sink.new) }
+// The values of words.
+fn values_of(alloc: Global, words: &[i64]) -> Result<Vec<bool>, OutOfMemory>
+    ensures { IfOk result (λ values. values.items ≡ spec.values_of words.now) }
 {
-    let mut digits = Buffer::new();
-    let mut fields = ByteRecord::new(alloc);
-    fields.push_field(digits.format(time).as_bytes())?;
+    let mut values = Vec::new(alloc);
+    for word in words {
+        values.push(is_one(*word))?;
+    }
+    Ok(values)
+}
+
+// The words of values.
+fn words_of(alloc: Global, values: &[bool]) -> Result<Vec<i64>, OutOfMemory>
+    ensures { IfOk result (λ words. words.items ≡ spec.words_of values.now) }
+{
+    let mut words = Vec::new(alloc);
     for value in values {
-        fields.push_field(boolean_bytes(*value))?;
+        words.push(bit(*value))?;
     }
-    let text = record_bytes(alloc, &fields)?;
-    write_whole(sink, text.as_slice())?;
+    Ok(words)
+}
+
+// Writes the record of one tick, with these words of the inputs.
+fn write_tick<O: Sink>(
+    alloc: Global,
+    block: &GateBlock,
+    time: i64,
+    words: &[i64],
+    writer: &mut TraceWriter,
+    out: &mut O,
+) -> Result<(), TraceError>
+    requires outputs { HasItsOutputs block.now }
+    requires writer { writer.old ≡ columns_of block.now.declared.outputs }
+    ensures ok { OnOk result (O.written out.new ≡ written_after (O.written out.old) (tick_text block.now time words.now)) }
+    ensures err { OnErr result (WritesSome (O.written out.old) (O.written out.new) (tick_text block.now time words.now)) }
+    ensures kept { writer.new ≡ writer.old }
+    ensures later { O.faults out.old ≤ O.faults out.new }
+    ensures fault { IsErrOf result TraceError.WriteFault → Rose (O.faults out.old) (O.faults out.new) }
+{
+    let inputs = values_of(alloc, words)?;
+    let values = block.circuit.output_values(alloc, &inputs)?;
+    let outputs = words_of(alloc, &values)?;
+    writer.row(time, &outputs, out)
+}
+
+/// Writes the trace of the rows of a table, record by record.
+pub(crate) fn write_trace<O: Sink>(
+    alloc: Global,
+    block: &GateBlock,
+    table: &Table,
+    out: &mut O,
+) -> Result<(), TraceError>
+    requires outputs { HasItsOutputs block.now }
+    ensures ok { OnOk result (O.written out.new ≡ written_after (O.written out.old) (trace_text block.now table.now)) }
+    ensures err { OnErr result (WritesSome (O.written out.old) (O.written out.new) (trace_text block.now table.now)) }
+    ensures later { O.faults out.old ≤ O.faults out.new }
+    ensures fault { IsErrOf result TraceError.WriteFault → Rose (O.faults out.old) (O.faults out.new) }
+{
+    let columns = boolean_columns(alloc, block.declared.outputs())?;
+    let mut writer = TraceWriter::new(alloc, columns)?;
+    writer.header(out)?;
+    for i in 0..table.rows() {
+        write_tick(alloc, block, table.time(i), table.row(i), &mut writer, out)?;
+    }
     Ok(())
-}
-
-// The text of a record. A fresh writer over memory fails only for want of memory.
-fn record_bytes(alloc: Global, fields: &ByteRecord) -> Result<Vec<u8>, OutOfMemory>
-    ensures { IfOk result (λ text. text.items ≡ row_text default_writer (fields_of fields.now)) }
-{
-    let mut writer = WriterBuilder::new().from_writer(Vec::new(alloc));
-    if writer.write_byte_record(fields).is_err() {
-        return Err(OutOfMemory);
-    }
-    match writer.into_inner() {
-        Ok(text) => Ok(text),
-        Err(_) => Err(OutOfMemory),
-    }
-}
-
-// The text of a Boolean.
-fn boolean_bytes(value: bool) -> &'static [u8]
-    ensures { result.now ≡ boolean_text value }
-{
-    if value { b"true" } else { b"false" }
 }

@@ -1,11 +1,16 @@
 use Rattle.std.proofs.Common.{ap, Err}
-use Rattle.cdl_command.proofs.ReadFacts.{table_read, table_not_read}
+use Rattle.cdl_command.proofs.ReadFacts.{table_read, table_broken, table_not_whole}
 use Rattle.cdl_command.proofs.run.read_table.Goals as goal
 
-pub returns-in-Ok-clause-ok : goal.returns-in-Ok-clause-ok
-returns-in-Ok-clause-ok g c =
-    table_read c.args.inputs.now _ c.in_ok-text.text c.bytes.result.now _ c.in_ok-text.ensures.whole c.in_ok-text.ensures.within c.bytes.ensures c.in-Ok.ensures.ok c.in-Ok.ensures.only
+pub returns-in-Err-clause-err : goal.returns-in-Err-clause-err
+returns-in-Err-clause-err g c =
+    rw c.not_whole.ensures (table_not_whole c.args.inputs.now _ c.in-Err.e _ (λ is. c.in-Err.ensures.failed (ap Err is)) c.in-Err.ensures.too_large)
 
-pub returns-in-Err-NotATable-clause-err : goal.returns-in-Err-NotATable-clause-err
-returns-in-Err-NotATable-clause-err g c =
-    table_not_read c.args.inputs.now _ c.in_ok-text.text c.bytes.result.now c.in_ok-text.ensures.whole c.bytes.ensures (c.in-Err-NotATable.ensures.refused (ap Err c.in-Err-NotATable.field-0-is))
+pub returns-in-Ok-check-clause-ok : goal.returns-in-Ok-check-clause-ok
+returns-in-Ok-check-clause-ok g c =
+    table_read c.args.inputs.now _ c.in-Ok.text c.bytes.result.now c.in_ok-columns.columns _ c.in-Ok.ensures.whole c.in-Ok.ensures.within c.bytes.ensures c.in_ok-columns.ensures c.in-Ok-check.ensures.ok c.in-Ok-check.ensures.only
+
+pub returns-in-Err-Rule-clause-err : goal.returns-in-Err-Rule-clause-err
+returns-in-Err-Rule-clause-err g c =
+    table_broken c.args.inputs.now _ c.in-Ok.text c.bytes.result.now c.in_ok-columns.columns _ _ _ c.in-Ok.ensures.whole c.in-Ok.ensures.within c.bytes.ensures c.in_ok-columns.ensures
+    (rw c.in-Err-Rule.field-0-is at c.in-Err-Rule.ensures.first) (rw c.in-Err-Rule.field-0-is at c.in-Err-Rule.ensures.refused) (rw c.in-Err-Rule.field-0-is at c.in-Err-Rule.ensures.only_first)

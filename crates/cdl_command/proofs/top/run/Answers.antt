@@ -16,15 +16,15 @@ returns-in-Err-read_table-clause-works g c =
 pub returns-in-Ok-write_trace-clause-works : goal.returns-in-Ok-write_trace-clause-works
 returns-in-Ok-write_trace-clause-works g c =
     run_is_done c.args.class.now c.args.table.now c.args.model.now _ _ _ _ _ _ c.in-Ok.block c.in-Ok-read_table.table _ _ c.requires.class (omega (arith, c.in-Ok.ensures.begun, c.in-Ok-read_table.ensures.begun))
-    c.in-Ok.ensures.contents c.in-Ok.ensures.ok (rw c.inputs.ensures at c.in-Ok-read_table.ensures.ok) (rw c.ticks.ensures at c.in-Ok-write_trace.ensures.ok)
+    c.in-Ok.ensures.contents c.in-Ok.ensures.ok (rw c.inputs.ensures at c.in-Ok-read_table.ensures.ok) c.in-Ok-write_trace.ensures.ok
 
 pub returns-in-Err-WriteFault-clause-works : goal.returns-in-Err-WriteFault-clause-works
 returns-in-Err-WriteFault-clause-works g c =
     (run_is_cut c.args.class.now c.args.table.now c.args.model.now _ _ _ _ _ _ c.in-Ok.block c.in-Ok-read_table.table _ _ c.requires.class (omega (arith, c.in-Ok.ensures.begun, c.in-Ok-read_table.ensures.begun))
-    c.in-Ok.ensures.contents c.in-Ok.ensures.ok (rw c.inputs.ensures at c.in-Ok-read_table.ensures.ok) (rw c.ticks.ensures at c.in-Err-WriteFault.ensures.err)).0
+    c.in-Ok.ensures.contents c.in-Ok.ensures.ok (rw c.inputs.ensures at c.in-Ok-read_table.ensures.ok) c.in-Err-WriteFault.ensures.err).0
     (c.in-Err-WriteFault.ensures.fault (ap Err c.in-Err-WriteFault.field-0-is))
 
 pub returns-clause-works : goal.returns-clause-works
 returns-clause-works g c =
     (run_is_cut c.args.class.now c.args.table.now c.args.model.now _ _ _ _ _ _ c.in-Ok.block c.in-Ok-read_table.table _ _ c.requires.class (omega (arith, c.in-Ok.ensures.begun, c.in-Ok-read_table.ensures.begun))
-    c.in-Ok.ensures.contents c.in-Ok.ensures.ok (rw c.inputs.ensures at c.in-Ok-read_table.ensures.ok) (rw c.ticks.ensures at c.in-Err-OutOfMemory.ensures.err)).1
+    c.in-Ok.ensures.contents c.in-Ok.ensures.ok (rw c.inputs.ensures at c.in-Ok-read_table.ensures.ok) c.in-Err-OutOfMemory.ensures.err).1
