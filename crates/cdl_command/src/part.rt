@@ -5,7 +5,7 @@ ghost use Rattle.cdl_command.specs.Parts as spec;
 use cdl_parse::{Ident, Name};
 
 /// What a gate computes.
-#[derive(Clone, Copy, Debug, PartialEq, Eq)]
+#[derive(Clone, Copy)]
 pub enum GateKind {
     And,
     Or,
@@ -13,7 +13,7 @@ pub enum GateKind {
 }
 
 /// What a declared part of a block is.
-#[derive(Clone, Copy, Debug, PartialEq, Eq)]
+#[derive(Clone, Copy)]
 pub enum Part {
     /// A Boolean input of the block.
     Input,

@@ -24,7 +24,7 @@ pub(crate) const NOT_BUILT: u32 = 9;
 const TABLE_TOO_LONG: u32 = 60;
 
 /// Why a file gave no model or no table.
-#[derive(Debug, Drop)]
+#[derive(Drop)]
 pub(crate) enum Stop {
     /// Its bytes break this rule first, here.
     Refused { rule: u32, spot: Spot },

@@ -1,5 +1,3 @@
-ghost use Rattle.std.specs.Prelude.{◌≡◌, IfOk};
-
 use super::*;
 use cdl_source::{MemFiles, MemSink, Text};
 use itoa::Buffer;
@@ -8,19 +6,21 @@ use std::process::Abort;
 use std::test::Fail;
 
 // What words, a model and a table end with: the code, and the texts on the two sinks.
-struct Case {
-    words: &'static str,
-    model: &'static str,
-    table: &'static str,
+#[derive(Clone, Copy)]
+struct Case<'a> {
+    words: &'a str,
+    model: &'a str,
+    table: &'a [u8],
     code: u8,
-    out: &'static str,
-    err: &'static str,
+    out: &'a str,
+    err: &'a str,
 }
 
 const GATES: &str =
     "block M\n  Buildings.Controls.OBC.CDL.Interfaces.BooleanInput u1;\n  Buildings.Controls.OBC.CDL.Interfaces.BooleanInput u2;\n  Buildings.Controls.OBC.CDL.Interfaces.BooleanOutput y;\n  Buildings.Controls.OBC.CDL.Logical.Not n;\n  Buildings.Controls.OBC.CDL.Logical.And a;\n  Buildings.Controls.OBC.CDL.Logical.Or o;\nequation\n  connect(u1, n.u);\n  connect(n.y, a.u1);\n  connect(u2, a.u2);\n  connect(u1, o.u1);\n  connect(a.y, o.u2);\n  connect(o.y, y);\nend M;\n";
 
-const TABLE: &str = "time,u1,u2\n0,false,false\n1000,false,true\n2000,true,false\n3000,true,true\n";
+const TABLE: &[u8] =
+    b"time,u1,u2\n0,false,false\n1000,false,true\n2000,true,false\n3000,true,true\n";
 
 const TRACE: &str = "time,y\n0,false\n1000,true\n2000,true\n3000,true\n";
 
@@ -34,11 +34,11 @@ const LOOP: &str =
 
 const NO_MODEL: &str = "m.mo:1:1: C9 not built yet\n";
 
-const CASES: [Case; 16] = [
+const CASES: [Case<'static>; 16] = [
     Case {
         words: RUN,
         model: "block M Buildings.Controls.OBC.CDL.Interfaces.BooleanInput a; Buildings.Controls.OBC.CDL.Interfaces.BooleanInput b; Buildings.Controls.OBC.CDL.Interfaces.BooleanInput c; Buildings.Controls.OBC.CDL.Interfaces.BooleanOutput y; Buildings.Controls.OBC.CDL.Logical.And p; Buildings.Controls.OBC.CDL.Logical.And q; Buildings.Controls.OBC.CDL.Logical.And r; Buildings.Controls.OBC.CDL.Logical.Or s; Buildings.Controls.OBC.CDL.Logical.Or t; equation connect(a, p.u1); connect(b, p.u2); connect(b, q.u1); connect(c, q.u2); connect(a, r.u1); connect(c, r.u2); connect(p.y, s.u1); connect(q.y, s.u2); connect(s.y, t.u1); connect(r.y, t.u2); connect(t.y, y); end M;",
-        table: "time,a,b,c\n0,0,0,0\n1,0,0,1\n2,0,1,0\n3,0,1,1\n4,1,0,0\n5,1,0,1\n6,1,1,0\n7,1,1,1\n",
+        table: b"time,a,b,c\n0,0,0,0\n1,0,0,1\n2,0,1,0\n3,0,1,1\n4,1,0,0\n5,1,0,1\n6,1,1,0\n7,1,1,1\n",
         code: 0,
         out: "time,y\n0,false\n1,false\n2,false\n3,true\n4,false\n5,true\n6,true\n7,true\n",
         err: "",
@@ -46,7 +46,7 @@ const CASES: [Case; 16] = [
     Case {
         words: RUN,
         model: "block M Buildings.Controls.OBC.CDL.Interfaces.BooleanInput a; Buildings.Controls.OBC.CDL.Interfaces.BooleanInput b; Buildings.Controls.OBC.CDL.Interfaces.BooleanOutput z; Buildings.Controls.OBC.CDL.Interfaces.BooleanOutput y; Buildings.Controls.OBC.CDL.Logical.Not n; Buildings.Controls.OBC.CDL.Logical.Not m; Buildings.Controls.OBC.CDL.Logical.And p; Buildings.Controls.OBC.CDL.Logical.And q; Buildings.Controls.OBC.CDL.Logical.Or o; equation connect(o.y, y); connect(a, n.u); connect(b, m.u); connect(a, p.u1); connect(m.y, p.u2); connect(n.y, q.u1); connect(b, q.u2); connect(p.y, o.u1); connect(q.y, o.u2); connect(n.y, z); end M;",
-        table: "time,a,b\n0,0,0\n1,0,1\n2,1,0\n3,1,1\n",
+        table: b"time,a,b\n0,0,0\n1,0,1\n2,1,0\n3,1,1\n",
         code: 0,
         out: "time,z,y\n0,true,false\n1,true,true\n2,false,true\n3,false,false\n",
         err: "",
@@ -62,7 +62,7 @@ const CASES: [Case; 16] = [
     Case {
         words: RUN,
         model: LOOP,
-        table: "",
+        table: b"",
         code: 1,
         out: "",
         err: NO_MODEL,
@@ -70,7 +70,7 @@ const CASES: [Case; 16] = [
     Case {
         words: RUN,
         model: "block M equation end M;",
-        table: "time\n7\n",
+        table: b"time\n7\n",
         code: 0,
         out: "time\n7\n",
         err: "",
@@ -78,7 +78,7 @@ const CASES: [Case; 16] = [
     Case {
         words: RUN,
         model: "block M end M;",
-        table: "time\n",
+        table: b"time\n",
         code: 1,
         out: "",
         err: NO_MODEL,
@@ -86,7 +86,7 @@ const CASES: [Case; 16] = [
     Case {
         words: RUN,
         model: "block N equation end N;",
-        table: "time\n",
+        table: b"time\n",
         code: 1,
         out: "",
         err: NO_MODEL,
@@ -94,7 +94,7 @@ const CASES: [Case; 16] = [
     Case {
         words: "run Modelica t.csv m.mo",
         model: "block Modelica equation end Modelica;",
-        table: "time\n",
+        table: b"time\n",
         code: 1,
         out: "",
         err: NO_MODEL,
@@ -165,114 +165,126 @@ const CASES: [Case; 16] = [
     },
 ];
 
-// Tables of the inputs `u1` and `u2`. Each with its trace, or with the rule that is broken first and its cell: each rule
-// beside the nearest table that keeps it, and then two rules at once.
-const TABLES: [(&str, &str, &str); 32] = [
-    ("time,u1,u2\n", "time,y\n", ""),
+// Tables of the inputs `u1` and `u2`. Each with its trace, or with its refusal: each rule is broken beside the nearest table
+// that keeps it, and then two rules at once.
+const TABLES: [(&[u8], &str, &str); 32] = [
+    (b"time,u1,u2\n", "time,y\n", ""),
     (
-        "\u{feff}\n\"time\",u1,u2\r\n\r\n\"0\",0,0\r5,1,0\n\n7,0,\"1",
+        b"\xef\xbb\xbf\n\"time\",u1,u2\r\n\r\n\"0\",0,0\r5,1,0\n\n7,0,\"1",
         "time,y\n0,false\n5,true\n7,true\n",
         "",
     ),
     (
-        "time,u1,u2\n0,true\n",
+        b"time,u1,u2\n0,true\n",
         "",
-        "2:1: C61 wrong number of fields",
+        "t.csv:2:1: C61 wrong number of fields\n",
     ),
-    ("time,u1,u2\n0,true,1\n", "time,y\n0,true\n", ""),
+    (b"time,u1,u2\n0,true,1\n", "time,y\n0,true\n", ""),
     (
-        "time,u1,u2\n0,true,1,1\n",
+        b"time,u1,u2\n0,true,1,1\n",
         "",
-        "2:1: C61 wrong number of fields",
+        "t.csv:2:1: C61 wrong number of fields\n",
     ),
-    ("", "", "1:1: C62 wrong header"),
-    ("\n\r\n", "", "1:1: C62 wrong header"),
-    ("u1,u2\n", "", "1:1: C62 wrong header"),
-    ("time,u2,u1\n", "", "1:2: C62 wrong header"),
-    ("time,u1\n", "", "1:3: C62 wrong header"),
-    ("time,u1,u2,\n", "", "1:4: C62 wrong header"),
-    ("time,u1,u2\n1.5,true,true\n", "", "2:1: C63 not a time"),
-    ("time,u1,u2\n15,true,true\n", "time,y\n15,true\n", ""),
+    (b"", "", "t.csv:1:1: C62 wrong header\n"),
+    (b"\n\r\n", "", "t.csv:1:1: C62 wrong header\n"),
+    (b"u1,u2\n", "", "t.csv:1:1: C62 wrong header\n"),
+    (b"time,u2,u1\n", "", "t.csv:1:2: C62 wrong header\n"),
+    (b"time,u1\n", "", "t.csv:1:3: C62 wrong header\n"),
+    (b"time,u1,u2,\n", "", "t.csv:1:4: C62 wrong header\n"),
     (
-        "time,u1,u2\n10000000000000,1,0\n",
+        b"time,u1,u2\n1.5,true,true\n",
+        "",
+        "t.csv:2:1: C63 not a time\n",
+    ),
+    (b"time,u1,u2\n15,true,true\n", "time,y\n15,true\n", ""),
+    (
+        b"time,u1,u2\n10000000000000,1,0\n",
         "time,y\n10000000000000,true\n",
         "",
     ),
     (
-        "time,u1,u2\n10000000000001,1,0\n",
+        b"time,u1,u2\n10000000000001,1,0\n",
         "",
-        "2:1: C63 not a time",
+        "t.csv:2:1: C63 not a time\n",
     ),
     (
-        "time,u1,u2\n5,true,true\n5,true,true\n",
+        b"time,u1,u2\n5,true,true\n5,true,true\n",
         "",
-        "3:1: C64 time doesn't rise",
+        "t.csv:3:1: C64 time doesn't rise\n",
     ),
     (
-        "time,u1,u2\n\n5,1,1\n\n4,1,1\n",
+        b"time,u1,u2\n\n5,1,1\n\n4,1,1\n",
         "",
-        "3:1: C64 time doesn't rise",
+        "t.csv:3:1: C64 time doesn't rise\n",
     ),
     (
-        "time,u1,u2\n5,true,true\n6,true,true\n",
+        b"time,u1,u2\n5,true,true\n6,true,true\n",
         "time,y\n5,true\n6,true\n",
         "",
     ),
     (
-        "time,u1,u2\n0,true,yes\n",
+        b"time,u1,u2\n0,true,yes\n",
         "",
-        "2:3: C65 not a value of its type",
+        "t.csv:2:3: C65 not a value of its type\n",
     ),
     (
-        "time,u1,u2\n0,TRUE,1\n",
+        b"time,u1,u2\n0,TRUE,1\n",
         "",
-        "2:2: C65 not a value of its type",
+        "t.csv:2:2: C65 not a value of its type\n",
     ),
     (
-        "time,u1,u2\n0,1,1 \n",
+        b"time,u1,u2\n0,1,1 \n",
         "",
-        "2:3: C65 not a value of its type",
+        "t.csv:2:3: C65 not a value of its type\n",
     ),
     // Two rules in one record.
     (
-        "time,u1,u2\nx,true\n",
+        b"time,u1,u2\nx,true\n",
         "",
-        "2:1: C61 wrong number of fields",
-    ),
-    ("time,u1,u2\n0,yes\n", "", "2:1: C61 wrong number of fields"),
-    ("time,u1,u2\nx,yes,1\n", "", "2:1: C63 not a time"),
-    (
-        "time,u1,u2\n5,1,1\n5,yes,1\n",
-        "",
-        "3:1: C64 time doesn't rise",
+        "t.csv:2:1: C61 wrong number of fields\n",
     ),
     (
-        "time,u1,u2\n0,yes,no\n",
+        b"time,u1,u2\n0,yes\n",
         "",
-        "2:2: C65 not a value of its type",
+        "t.csv:2:1: C61 wrong number of fields\n",
+    ),
+    (b"time,u1,u2\nx,yes,1\n", "", "t.csv:2:1: C63 not a time\n"),
+    (
+        b"time,u1,u2\n5,1,1\n5,yes,1\n",
+        "",
+        "t.csv:3:1: C64 time doesn't rise\n",
+    ),
+    (
+        b"time,u1,u2\n0,yes,no\n",
+        "",
+        "t.csv:2:2: C65 not a value of its type\n",
     ),
     // Two rules in two records, in both orders.
-    ("time,u1\nx,1,1\n", "", "1:3: C62 wrong header"),
+    (b"time,u1\nx,1,1\n", "", "t.csv:1:3: C62 wrong header\n"),
     (
-        "time,u1,u2\n0,1\nx,1,1\n",
+        b"time,u1,u2\n0,1\nx,1,1\n",
         "",
-        "2:1: C61 wrong number of fields",
-    ),
-    ("time,u1,u2\nx,1,1\n0,1\n", "", "2:1: C63 not a time"),
-    (
-        "time,u1,u2\n5,1,yes\n5,1,1\n",
-        "",
-        "2:3: C65 not a value of its type",
+        "t.csv:2:1: C61 wrong number of fields\n",
     ),
     (
-        "time,u1,u2\n5,1,1\n5,1,1\n6,1,yes\n",
+        b"time,u1,u2\nx,1,1\n0,1\n",
         "",
-        "3:1: C64 time doesn't rise",
+        "t.csv:2:1: C63 not a time\n",
     ),
     (
-        "time,u1,u2\n5,1,1\n6,1,yes\n6,1\n",
+        b"time,u1,u2\n5,1,yes\n5,1,1\n",
         "",
-        "3:3: C65 not a value of its type",
+        "t.csv:2:3: C65 not a value of its type\n",
+    ),
+    (
+        b"time,u1,u2\n5,1,1\n5,1,1\n6,1,yes\n",
+        "",
+        "t.csv:3:1: C64 time doesn't rise\n",
+    ),
+    (
+        b"time,u1,u2\n5,1,1\n6,1,yes\n6,1\n",
+        "",
+        "t.csv:3:3: C65 not a value of its type\n",
     ),
 ];
 
@@ -372,19 +384,14 @@ fn words_of(alloc: Global, text: &str) -> Result<Vec<String>, Fail> {
     Ok(words)
 }
 
-fn files_of(alloc: Global, model: &str, table: &[u8]) -> Result<MemFiles, Fail>
-    ensures { IfOk result (λ files. files.begun ≡ 0) }
-{
-    let mut files = MemFiles::new(alloc);
-    files.put("m.mo", model.as_bytes())?;
-    files.put("t.csv", table)?;
-    Ok(files)
-}
-
-fn ends_so(rt: &impl Abort, alloc: Global, case: &Case) -> Result<(), Fail> {
+// Runs a case. The write of that number on standard output fails, if it is not 0.
+fn ends_so(rt: &impl Abort, alloc: Global, case: &Case<'_>, failing: u64) -> Result<(), Fail> {
     let words = words_of(alloc, case.words)?;
-    let mut files = files_of(alloc, case.model, case.table.as_bytes())?;
+    let mut files = MemFiles::new(alloc);
+    files.put("m.mo", case.model.as_bytes())?;
+    files.put("t.csv", case.table)?;
     let mut out = MemSink::new(alloc, 7, 4096)?;
+    out.fail(failing)?;
     let mut err = MemSink::new(alloc, 4096, 4096)?;
     let outcome = command(alloc, &words, &mut files, &mut out, &mut err);
     assert_eq!(rt; err.bytes(), case.err.as_bytes());
@@ -393,30 +400,24 @@ fn ends_so(rt: &impl Abort, alloc: Global, case: &Case) -> Result<(), Fail> {
     Ok(())
 }
 
-// The run of a table ends with this trace, or with this refusal.
+// The run of GATES over a table ends with this trace, or with this refusal.
 fn table_ends_so(
     rt: &impl Abort,
     alloc: Global,
     table: &[u8],
     out: &str,
-    refusal: &str,
+    err: &str,
 ) -> Result<(), Fail> {
-    let mut text = Text::new(alloc);
-    if !refusal.is_empty() {
-        text.push(b"t.csv:")?;
-        text.push(refusal.as_bytes())?;
-        text.push(b"\n")?;
-    }
-    let words = words_of(alloc, RUN)?;
-    let mut files = files_of(alloc, GATES, table)?;
-    let mut trace = MemSink::new(alloc, 7, 4096)?;
-    let mut err = MemSink::new(alloc, 4096, 4096)?;
-    let outcome = command(alloc, &words, &mut files, &mut trace, &mut err);
-    let code = if refusal.is_empty() { 0 } else { 1 };
-    assert_eq!(rt; err.bytes(), text.bytes());
-    assert_eq!(rt; trace.bytes(), out.as_bytes());
-    assert_eq!(rt; outcome.code(), code);
-    Ok(())
+    let code = if err.is_empty() { 0 } else { 1 };
+    let case = Case {
+        words: RUN,
+        model: GATES,
+        table,
+        code,
+        out,
+        err,
+    };
+    ends_so(rt, alloc, &case, 0)
 }
 
 // A table of 33,554,432 bytes without a row: behind the header stand blank lines.
@@ -447,46 +448,47 @@ fn table_of_many_rows(alloc: Global) -> Result<Text, Fail> {
 fn jobs_end_so(rt: HostRuntime) -> Result<(), Fail> {
     let alloc = rt.alloc();
     for case in CASES.iter() {
-        ends_so(&rt, alloc, case)?;
+        ends_so(&rt, alloc, case, 0)?;
     }
-    for (table, out, refusal) in TABLES.iter() {
-        table_ends_so(&rt, alloc, table.as_bytes(), out, refusal)?;
+    for (table, out, err) in TABLES.iter() {
+        table_ends_so(&rt, alloc, table, out, err)?;
     }
-    let mut table = longest_table(alloc)?;
-    table_ends_so(&rt, alloc, table.bytes(), "time,y\n", "")?;
-    table.push(b"\n")?;
-    table_ends_so(&rt, alloc, table.bytes(), "", " C60 table too long")?;
+    let mut longest = longest_table(alloc)?;
+    table_ends_so(&rt, alloc, longest.bytes(), "time,y\n", "")?;
+    longest.push(b"\n")?;
+    table_ends_so(
+        &rt,
+        alloc,
+        longest.bytes(),
+        "",
+        "t.csv: C60 table too long\n",
+    )?;
     let many = table_of_many_rows(alloc)?;
     table_ends_so(
         &rt,
         alloc,
         many.bytes(),
         "",
-        "1000002:1: C66 too many ticks",
+        "t.csv:1000002:1: C66 too many ticks\n",
     )?;
-    let words = words_of(alloc, RUN)?;
-    let mut files = files_of(alloc, GATES, TABLE.as_bytes())?;
-    let mut out = MemSink::new(alloc, 4, 4096)?;
-    out.fail(2)?;
-    let mut err = MemSink::new(alloc, 4096, 4096)?;
-    let outcome = command(alloc, &words, &mut files, &mut out, &mut err);
-    assert_eq!(rt; outcome.code(), 5);
-    assert_eq!(rt; out.bytes(), b"time".as_slice());
-    assert_eq!(rt; err.bytes(), b"write fault\n".as_slice());
-    Ok(())
-}
-
-#[test]
-fn models_keep_each_rule(rt: HostRuntime) -> Result<(), Fail> {
-    let alloc = rt.alloc();
     for (model, is_one) in MODELS.iter() {
-        let words = words_of(alloc, RUN)?;
-        let mut files = files_of(alloc, model, b"time,u\n5,1\n")?;
-        let mut out = MemSink::new(alloc, 64, 64)?;
-        let mut err = MemSink::new(alloc, 64, 64)?;
-        let outcome = command(alloc, &words, &mut files, &mut out, &mut err);
-        let code = if *is_one { 0 } else { 1 };
-        assert_eq!(rt; outcome.code(), code, "{model}");
+        let case = Case {
+            words: RUN,
+            model,
+            table: b"time,u\n5,1\n",
+            code: if *is_one { 0 } else { 1 },
+            out: if *is_one { "time,y\n5,false\n" } else { "" },
+            err: if *is_one { "" } else { NO_MODEL },
+        };
+        ends_so(&rt, alloc, &case, 0)?;
     }
-    Ok(())
+    let full = Case {
+        words: RUN,
+        model: GATES,
+        table: TABLE,
+        code: 5,
+        out: "time,y\n",
+        err: "write fault\n",
+    };
+    ends_so(&rt, alloc, &full, 2)
 }

@@ -12,14 +12,14 @@ use std::alloc::Global;
 use std::marker::Model;
 
 /// What gives values: an input of the block or the output of a gate, by its place among them.
-#[derive(Clone, Copy, Debug, PartialEq, Eq)]
+#[derive(Clone, Copy)]
 pub(crate) enum Source {
     Input(usize),
     Gate(usize),
 }
 
 /// What takes values: an output of the block, or the first or second input of a gate, by its place among them.
-#[derive(Clone, Copy, Debug, PartialEq, Eq)]
+#[derive(Clone, Copy)]
 pub(crate) enum Sink {
     Output(usize),
     First(usize),
