@@ -8,7 +8,7 @@ use Rattle.cdl_table.specs.Broken.{IsFirstBroken}
 use Rattle.cdl_table.specs.IsTable.{IsTable, most_table_bytes}
 use Rattle.cdl_table.specs.Rows.{table_records}
 use Rattle.cdl_table.specs.TableRow.{TableRow}
-use Rattle.cdl_command.specs.Tables.{IsNoTableText, IsOnlyFirst, columns_of}
+use Rattle.cdl_command.specs.Tables.{IsOnlyFirst, columns_of}
 use Rattle.cdl_command.specs.Model.{IsNoModel, JudgesModel}
 use Rattle.cdl_command.specs.Stops.{IsModelRead, IsModelRefused, IsTableRead, IsTableRefused, Stops, first_byte, stop_of}
 use Rattle.cdl_command.specs.declared.model.GateBlock.{GateBlock}

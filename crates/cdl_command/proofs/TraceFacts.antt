@@ -1,5 +1,5 @@
 -- What of a trace was written.
-use Rattle.std.proofs.Common.{◌≡◌, ◌∙◌, ◌+◌, ◌≤◌, ◌<◌, ℕ, ℤ, pos, suc, Bool, true, false, subst, List, [], ◌∷◌, ◌++◌, length, map, take, drop, Option, None, Some, Result, Ok, Err, OnErr, refl, sym, ap, inl, inr, append_assoc, append-nil, length-append, arith}
+use Rattle.std.proofs.Common.{◌≡◌, ◌∙◌, ◌+◌, ◌≤◌, ◌<◌, ℕ, ℤ, pos, suc, Bool, true, false, subst, List, [], ◌∷◌, ◌++◌, length, take, drop, Option, None, Some, Result, Ok, Err, OnErr, refl, sym, ap, inl, inr, append_assoc, append-nil, length-append, arith}
 use Rattle.std.proofs.lemmas.List.{length-map, take-append-le, take_more, take-append-drop}
 use Rattle.std.proofs.Math.Seq.{take-append-add, drop-cons}
 use Rattle.cdl_source.specs.Outside.{written_after}
