@@ -2,7 +2,7 @@
 use Rattle.std.proofs.Common.{◌≡◌, ◌<◌, ◌∙◌, ℕ, suc, Bool, true, false, List, ◌∷◌, Option, Some, None, length, drop, get_or, refl, sym, ap}
 use Rattle.std.specs.Prelude.{if◌then◌else◌}
 use Rattle.std.proofs.Math.Seq.{drop-cons}
-use Rattle.cdl_parse.specs.declared.tree.Item.{Item}
+use Rattle.cdl_tree.specs.declared.class.Item.{Item}
 use Rattle.cdl_command.specs.Blocks.{Declarations, declare, declare_all}
 
 -- the items from i on: this one, and those behind it

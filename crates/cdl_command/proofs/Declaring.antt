@@ -4,7 +4,7 @@ use Rattle.std.specs.Prelude.{option_and_then, ◌||◌}
 use Rattle.std.specs.Option.{option_map, IsSome}
 use Rattle.std.specs.Str.{bytes_eq}
 use Rattle.std.proofs.lemmas.Bool.{false≢true}
-use Rattle.cdl_parse.specs.declared.tree.Item.{Item}
+use Rattle.cdl_tree.specs.declared.class.Item.{Item}
 use Rattle.cdl_command.specs.Names.{place_of}
 use Rattle.cdl_command.specs.Parts.{is_type_name}
 use Rattle.cdl_command.specs.Blocks.{Declarations, is_declared, with_part, declare, declare_all}

@@ -1,15 +1,21 @@
 -- The block of a tree and the rules of the form, from one to the other.
 use Rattle.std.proofs.Common.{◌≡◌, ◌<◌, ◌∙◌, ℕ, zero, suc, Bool, true, false, List, [], ◌∷◌, Option, Some, None, length, map, refl, sym, ap, subst, inl, inr, arith}
 use Rattle.std.specs.Prelude.{◌⊎◌, ◌&&◌, not, option_and_then}
-use Rattle.std.specs.Option.{option_map}
+use Rattle.std.specs.Option.{option_map, IsSome}
 use Rattle.std.specs.Str.{bytes_eq}
 use Rattle.std.proofs.lemmas.Bool.{false≢true, ltb-true, lt-ltb}
-use Rattle.cdl_parse.specs.declared.tree.Item.{Item}
-use Rattle.cdl_parse.specs.declared.tree.FileTree.{FileTree}
+use Rattle.cdl_tree.specs.declared.class.Item.{Item}
+use Rattle.cdl_tree.specs.declared.name.Ident.{Ident}
+use Rattle.cdl_tree.specs.declared.class.Connect.{Connect}
+use Rattle.cdl_tree.specs.declared.class.ClassTree.{ClassTree}
+use Rattle.cdl_tree.specs.declared.class.FileTree.{FileTree}
+use Rattle.cdl_tree.specs.Parts.{class_name, items_of, connects_of}
+use Rattle.cdl_command.specs.Parts.{is_type_name}
 use Rattle.cdl_command.specs.Blocks.{Declarations, is_declared, declare_all, nothing_declared}
 use Rattle.cdl_command.specs.Wiring.{Wire, Joins, no_joins, wire_of, join_all, source_at, source_of, sink_of}
 use Rattle.cdl_command.specs.Circuits.{Wired, is_ready, circuit_of}
-use Rattle.cdl_command.specs.Model.{is_reserved, with_wiring, block_of}
+use Rattle.cdl_command.specs.Model.{is_reserved, with_wiring, gates_in, block_of}
+use Rattle.cdl_command.specs.Simple.{simple_block}
 use Rattle.cdl_command.specs.Form.{At, Each, Has, Differ, name_of, part_in, if_output, if_gate, kind_before, outputs_of, gates_of, kinds_of, declarations_of, IsForward, IsWiring, IsSound, IsComplete}
 use Rattle.cdl_command.specs.declared.part.GateKind.{GateKind}
 use Rattle.cdl_command.specs.declared.part.Part.{Part}
@@ -17,6 +23,7 @@ use Rattle.cdl_command.specs.declared.part.Part.TheVariants.{Input, Output, Gate
 use Rattle.cdl_command.specs.declared.wiring.Source.{Source}
 use Rattle.cdl_command.specs.declared.wiring.Sink.{Sink}
 use Rattle.cdl_command.specs.declared.model.GateBlock.{GateBlock}
+use Rattle.cdl_command.proofs.SimpleFacts.{simple-sound, simple-complete, HasSimple}
 use Rattle.cdl_command.proofs.Places.{and_then-some, map-some, then-some, same_text, text_self, differ-rest, differ-head, differ-cons}
 use Rattle.cdl_command.proofs.Declaring.{CanDeclare, declared-sound, declared-complete}
 use Rattle.cdl_command.proofs.References.{source-input, source-gate, source-sound, source-complete, sink-output, sink-gate, sink-sound, sink-complete, ref-only, ready_at, port-ready}
@@ -180,13 +187,13 @@ wiring-complete d ws as_many outputs gates h =
     let c = circuit-complete d j.0 fit as_many outputs gates (sink-ready d ws j.0 gates h all) in
     (j.0, c.0, j.1, c.1)
 
-wired : (tree : FileTree) (d : Declarations) (j : Joins) (c : Wired) → join_all d (no_joins d) (map wire_of tree.connects) ≡ Some j → circuit_of d j ≡ Some c
+wired : (tree : ClassTree) (d : Declarations) (j : Joins) (c : Wired) → join_all d (no_joins d) (map wire_of (connects_of tree)) ≡ Some j → circuit_of d j ≡ Some c
     → with_wiring tree d ≡ Some (record { declared = d; circuit = c })
 wired tree d j c a b = rw (a, b) refl
 
-is-block : (class : List ℕ) (tree : FileTree) (d : Declarations) (block : GateBlock) → bytes_eq tree.name.text class ≡ true → is_reserved class ≡ false
-    → declare_all nothing_declared tree.items ≡ Some d → with_wiring tree d ≡ Some block → block_of class tree ≡ Some block
-is-block class tree d block n f a b = rw (n, f, a) b
+gives-gates : (class : List ℕ) (tree : ClassTree) (d : Declarations) (block : GateBlock) → bytes_eq (class_name tree).text class ≡ true → is_reserved class ≡ false
+    → declare_all nothing_declared (items_of tree) ≡ Some d → with_wiring tree d ≡ Some block → gates_in class tree ≡ Some block
+gives-gates class tree d block n f a b = rw (n, f, a) b
 
 both-true : (a b : Bool) → (a && not b) ≡ true → (a ≡ true) × (b ≡ false)
 both-true true false h = (refl, refl)
@@ -199,35 +206,91 @@ declared-is block d c h = sym (ap (λ (b : GateBlock). b.declared) h)
 nothing-fresh : (items : List Item) → Each (λ item. is_declared nothing_declared (name_of item) ≡ false) items
 nothing-fresh items k x at = refl
 
-pub form-sound : IsSound
-form-sound class tree block h =
-    let named = then-some (bytes_eq tree.name.text class && not (is_reserved class)) (option_and_then (with_wiring tree) (declare_all nothing_declared tree.items)) block h in
-    let names = both-true (bytes_eq tree.name.text class) (is_reserved class) named.0 in
-    let d = and_then-some (with_wiring tree) (declare_all nothing_declared tree.items) block named.1 in
-    let can = declared-sound tree.items nothing_declared d.0 d.1 in
-    let j = and_then-some (λ j. option_map (λ c. record { declared = d.0; circuit = c }) (circuit_of d.0 j)) (join_all d.0 (no_joins d.0) (map wire_of tree.connects)) block d.2 in
+-- the rules on the name, the items and the statements of a block
+record HasGates (class : List ℕ) (name : Ident) (items : List Item) (connects : List Connect) : Type 0 where
+  pub named : name.text ≡ class
+  pub free : is_reserved class ≡ false
+  pub known : Each (λ item. IsSome (part_in item)) items
+  pub distinct : Differ name_of items
+  pub untyped : Each (λ item. is_type_name (name_of item) ≡ false) items
+  pub wiring : IsWiring (declarations_of items) (map wire_of connects)
+
+gates-sound : (class : List ℕ) (tree : ClassTree) (block : GateBlock) → gates_in class tree ≡ Some block
+    → HasGates class (class_name tree) (items_of tree) (connects_of tree) × (block.declared ≡ declarations_of (items_of tree))
+gates-sound class tree block h =
+    let items = items_of tree in
+    let wires = map wire_of (connects_of tree) in
+    let named = then-some (bytes_eq (class_name tree).text class && not (is_reserved class)) (option_and_then (with_wiring tree) (declare_all nothing_declared items)) block h in
+    let names = both-true (bytes_eq (class_name tree).text class) (is_reserved class) named.0 in
+    let d = and_then-some (with_wiring tree) (declare_all nothing_declared items) block named.1 in
+    let can = declared-sound items nothing_declared d.0 d.1 in
+    let j = and_then-some (λ j. option_map (λ c. record { declared = d.0; circuit = c }) (circuit_of d.0 j)) (join_all d.0 (no_joins d.0) wires) block d.2 in
     let c = map-some (λ c. record { declared = d.0; circuit = c }) (circuit_of d.0 j.0) block j.2 in
-    let is : d.0 ≡ declarations_of tree.items = can.1 in
-    let once : AreOnce d.0.gates = subst (λ (e : Declarations). AreOnce e.gates) (sym is) (gates-once tree.items can.0.distinct) in
-    let wiring = wiring-sound d.0 (map wire_of tree.connects) j.0 c.0 once j.1 c.1 in (
+    let is : d.0 ≡ declarations_of items = can.1 in
+    let once : AreOnce d.0.gates = subst (λ (e : Declarations). AreOnce e.gates) (sym is) (gates-once items can.0.distinct) in
+    let wiring = wiring-sound d.0 wires j.0 c.0 once j.1 c.1 in (
       record {
-        named = same_text tree.name.text class names.0;
+        named = same_text (class_name tree).text class names.0;
         free = names.1;
         known = can.0.known;
         distinct = can.0.distinct;
         untyped = can.0.untyped;
-        wiring = subst (λ (e : Declarations). IsWiring e (map wire_of tree.connects)) is wiring;
+        wiring = subst (λ (e : Declarations). IsWiring e wires) is wiring;
       },
       declared-is block d.0 c.0 c.2 ∙ is,
     )
 
+gates-complete : (class : List ℕ) (tree : ClassTree) → HasGates class (class_name tree) (items_of tree) (connects_of tree) → (block : GateBlock) × (gates_in class tree ≡ Some block)
+gates-complete class tree h =
+    let items = items_of tree in
+    let d = declarations_of items in
+    let can : CanDeclare nothing_declared items =
+    record { known = h.known; distinct = h.distinct; untyped = h.untyped; fresh = nothing-fresh items } in
+    let declared : declare_all nothing_declared items ≡ Some d = declared-complete items nothing_declared can in
+    let w = wiring-complete d (map wire_of (connects_of tree)) (as-many items) (outputs-once items h.distinct) (gates-once items h.distinct) h.wiring in
+    let block : GateBlock = record { declared = d; circuit = w.1 } in
+    let named : bytes_eq (class_name tree).text class ≡ true = rw h.named (text_self class) in
+    (block, gives-gates class tree d block named h.free declared (wired tree d w.0 w.1 w.2 w.3))
+
+pub form-sound : IsSound
+form-sound class tree block h =
+    let b = and_then-some (gates_in class) (simple_block tree) block h in
+    let s = simple-sound tree b.0 b.1 in
+    let g = gates-sound class b.0 block b.2 in
+    let gates : HasGates class s.name s.items s.connects =
+    subst (λ (n : Ident). HasGates class n s.items s.connects) s.name_is
+    (subst (λ (xs : List Item). HasGates class (class_name b.0) xs s.connects) s.items_are
+    (subst (λ (cs : List Connect). HasGates class (class_name b.0) (items_of b.0) cs) s.connects_are g.0)) in (
+      record {
+        name = s.name;
+        items = s.items;
+        connects = s.connects;
+        span = s.span;
+        within = s.within;
+        alone = s.alone;
+        named = gates.named;
+        free = gates.free;
+        plain = s.plain;
+        known = gates.known;
+        distinct = gates.distinct;
+        untyped = gates.untyped;
+        straight = s.straight;
+        wiring = gates.wiring;
+      },
+      g.1 ∙ ap declarations_of s.items_are,
+    )
+
+gives-block : (class : List ℕ) (tree : FileTree) (b : ClassTree) (block : GateBlock) → simple_block tree ≡ Some b → gates_in class b ≡ Some block → block_of class tree ≡ Some block
+gives-block class tree b block simple gates = rw simple gates
+
 pub form-complete : IsComplete
 form-complete class tree h =
-    let d = declarations_of tree.items in
-    let can : CanDeclare nothing_declared tree.items =
-    record { known = h.known; distinct = h.distinct; untyped = h.untyped; fresh = nothing-fresh tree.items } in
-    let declared : declare_all nothing_declared tree.items ≡ Some d = declared-complete tree.items nothing_declared can in
-    let w = wiring-complete d (map wire_of tree.connects) (as-many tree.items) (outputs-once tree.items h.distinct) (gates-once tree.items h.distinct) h.wiring in
-    let block : GateBlock = record { declared = d; circuit = w.1 } in
-    let named : bytes_eq tree.name.text class ≡ true = rw h.named (text_self class) in
-    (block, is-block class tree d block named h.free declared (wired tree d w.0 w.1 w.2 w.3))
+    let s : HasSimple tree h.name h.items h.connects = simple-complete tree h.name h.items h.connects h.span h.within h.alone h.plain h.straight in
+    let gates : HasGates class h.name h.items h.connects =
+    record { named = h.named; free = h.free; known = h.known; distinct = h.distinct; untyped = h.untyped; wiring = h.wiring } in
+    let g =
+    gates-complete class s.block
+    (subst (λ (n : Ident). HasGates class n (items_of s.block) (connects_of s.block)) (sym s.name_is)
+    (subst (λ (xs : List Item). HasGates class h.name xs (connects_of s.block)) (sym s.items_are)
+    (subst (λ (cs : List Connect). HasGates class h.name h.items cs) (sym s.connects_are) gates))) in
+    (g.0, gives-block class tree s.block g.0 s.is_simple g.1)

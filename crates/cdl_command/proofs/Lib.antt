@@ -13,6 +13,7 @@ pub mod SolutionWires
 pub mod SolutionGates
 pub mod Solution
 pub mod Places
+pub mod SimpleFacts
 pub mod Declaring
 pub mod References
 pub mod Joining

@@ -1,35 +1,36 @@
 -- From the tokens and the tree of a text to its block.
-use Rattle.std.proofs.Common.{◌≡◌, ℕ, List, Option, Some, None, Result, Ok, Err, IfOk, refl, sym, subst}
+use Rattle.std.proofs.Common.{◌≡◌, ℕ, List, Option, Some, None, Result, Ok, Err, IfOk, sym, subst}
+use Rattle.cdl_source.specs.declared.place.Place.{Place}
 use Rattle.cdl_source.specs.declared.place.Token.{Token}
 use Rattle.cdl_lex.specs.TokenList.{TokenList}
-use Rattle.cdl_lex.specs.Splits.{IsInForm}
-use Rattle.cdl_parse.specs.declared.tree.FileTree.{FileTree}
-use Rattle.cdl_parse.specs.Terminals.{terminals}
-use Rattle.cdl_parse.specs.Grammar.{Sentence}
+use Rattle.cdl_lex.specs.Rules.{BreaksNone}
+use Rattle.cdl_lex.specs.Splits.{Splits}
+use Rattle.cdl_tree.specs.declared.class.FileTree.{FileTree}
+use Rattle.cdl_tree.specs.Terminals.{terminals}
+use Rattle.cdl_parse.specs.Verdict.{Closes, IsTree, word_of}
+use Rattle.cdl_parse.specs.declared.ParseFault.TheVariants.{Rule}
 use Rattle.cdl_command.specs.Model.{IsTreeOf, JudgesTree, JudgesModel, block_of}
 use Rattle.cdl_command.specs.declared.model.GateBlock.{GateBlock}
 
--- the word of a text with these tokens
-word_is : (t : TokenList) (bytes : List ℕ) (ts : List Token) → t.bytes ≡ bytes → t.items ≡ ts → terminals t ≡ terminals (record { file = 0; bytes = bytes; items = ts })
-word_is t bytes ts b i = rw (b, i) refl
+-- the tokens that were found close into the tree
+tree_is : (t : TokenList) (bytes : List ℕ) (tree : FileTree) → t.bytes ≡ bytes → BreaksNone bytes → Splits bytes t.items → Closes (word_of t) tree → IsTreeOf bytes tree
+tree_is t bytes tree b none splits c =
+    record { none_broken = none; tokens = t.items; splits = splits; closes = subst (λ bs. Closes (terminals bs t.items) tree) b c }
 
-tree_is : (t : TokenList) (bytes : List ℕ) (tree : FileTree) → t.bytes ≡ bytes → IsInForm bytes t.items → Sentence (terminals t) tree → IsTreeOf bytes tree
-tree_is t bytes tree b splits s =
-    record { tokens = t.items; splits = splits; sentence = subst (λ w. Sentence w tree) (word_is t bytes t.items b refl) s }
+-- The tokens that were found close into each tree of the text.
+closed : (t : TokenList) (bytes : List ℕ) → t.bytes ≡ bytes → ((ts : List Token) → Splits bytes ts → ts ≡ t.items) → (other : FileTree) → IsTreeOf bytes other → Closes (word_of t) other
+closed t bytes b lexed other o =
+    subst (λ bs. Closes (terminals bs t.items) other) (sym b) (subst (λ ts. Closes (terminals bytes ts) other) (lexed o.tokens o.splits) o.closes)
 
--- a tree of the text is derived from the tokens that were found
-derived : (t : TokenList) (bytes : List ℕ) → t.bytes ≡ bytes → ((ts : List Token) → IsInForm bytes ts → t.items ≡ ts) → (other : FileTree) → IsTreeOf bytes other → Sentence (terminals t) other
-derived t bytes b lexed other o =
-    subst (λ w. Sentence w other) (sym (word_is t bytes o.tokens b (lexed o.tokens o.splits))) o.sentence
+pub tree_found : (t : TokenList) (bytes : List ℕ) (tree : FileTree) → t.bytes ≡ bytes → BreaksNone bytes → Splits bytes t.items → ((ts : List Token) → Splits bytes ts → ts ≡ t.items)
+    → Closes (word_of t) tree → ((other : FileTree) → Closes (word_of t) other → IsTree other (Ok tree)) → JudgesTree bytes (Some tree)
+tree_found t bytes tree b none splits lexed found only =
+    (tree_is t bytes tree b none splits found, λ other o. sym (only other (closed t bytes b lexed other o)))
 
-pub tree_found : (t : TokenList) (bytes : List ℕ) (tree : FileTree) → t.bytes ≡ bytes → IsInForm bytes t.items → ((ts : List Token) → IsInForm bytes ts → t.items ≡ ts)
-    → Sentence (terminals t) tree → ((other : FileTree) → Sentence (terminals t) other → tree ≡ other) → JudgesTree bytes (Some tree)
-tree_found t bytes tree b splits lexed found only =
-    (tree_is t bytes tree b splits found, λ other o. sym (only other (derived t bytes b lexed other o)))
-
-pub tree_refused : (t : TokenList) (bytes : List ℕ) → t.bytes ≡ bytes → ((ts : List Token) → IsInForm bytes ts → t.items ≡ ts)
-    → ((tree : FileTree) → Sentence (terminals t) tree → ⊥) → JudgesTree bytes None
-tree_refused t bytes b lexed refused = λ tree o. refused tree (derived t bytes b lexed tree o)
+-- A text whose tokens are refused has no tree: they close into none.
+pub tree_refused : (t : TokenList) (bytes : List ℕ) (rule : ℕ) (place : Place) → t.bytes ≡ bytes → ((ts : List Token) → Splits bytes ts → ts ≡ t.items)
+    → ((tree : FileTree) → Closes (word_of t) tree → IsTree tree (Err (Rule rule place))) → JudgesTree bytes None
+tree_refused t bytes rule place b lexed only = λ tree o. let memory = only tree (closed t bytes b lexed tree o) in absurd (cc memory)
 
 -- the block of the tree that was found is the block of the text
 pub judged : (class bytes : List ℕ) (tree : FileTree) (o : Option GateBlock) → JudgesTree bytes (Some tree) → o ≡ block_of class tree → JudgesModel class bytes o

@@ -3,6 +3,8 @@ use Rattle.std.proofs.Common.{◌≡◌, ◌∙◌, ◌≤◌, ◌<◌, ℕ, Lis
 use Rattle.cdl_source.specs.Whole.{KeepsHead}
 use Rattle.cdl_source.specs.declared.whole.ReadError.{ReadError}
 use Rattle.cdl_source.specs.declared.whole.ReadError.TheVariants.{Failed, TooLarge, OutOfMemory}
+use Rattle.cdl_lex.specs.Rules.Breaks.{too_long as over_limit}
+use Rattle.cdl_lex.specs.TokenList.{longest_text}
 use Rattle.cdl_table.specs.declared.column.Column.{Column}
 use Rattle.cdl_table.specs.Broken.{IsFirstBroken}
 use Rattle.cdl_table.specs.IsTable.{IsTable, most_table_bytes}
@@ -91,7 +93,7 @@ model_not_read class contents text read whole e judged = (refl, refl, no_model_r
 
 -- a model has at most 524,288 bytes
 model_long : (class bytes : List ℕ) → 524288 < length bytes → IsNoModel class bytes
-model_long class bytes long = λ block m. absurd (omega (arith, m.is_tree.splits.short, long))
+model_long class bytes long = λ block m. m.is_tree.none_broken 1 longest_text (over_limit (record { long = long; place = refl }))
 
 model_too_long : (class : List ℕ) (contents : Option (List ℕ)) (head : List ℕ) → IfSome contents (λ bytes. (524288 < length bytes) × (head ≡ take 524288 bytes)) → IfSome contents (IsNoModel class)
 model_too_long class None head long = tt

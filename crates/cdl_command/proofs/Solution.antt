@@ -6,20 +6,23 @@ use Rattle.std.specs.Str.{bytes_eq}
 use Rattle.std.proofs.lemmas.Bool.{cases_Bool}
 use Rattle.std.proofs.lemmas.List.{get_or-map, get_or_default, length-map, same_lists}
 use Rattle.std.proofs.lemmas.Option.{option_and_then_some, slice_get-get_or}
-use Rattle.cdl_parse.specs.declared.tree.FileTree.{FileTree}
+use Rattle.cdl_tree.specs.declared.class.ClassTree.{ClassTree}
+use Rattle.cdl_tree.specs.declared.class.FileTree.{FileTree}
+use Rattle.cdl_tree.specs.Parts.{class_name, items_of, connects_of}
 use Rattle.cdl_command.specs.Names.{place_of}
 use Rattle.cdl_command.specs.Blocks.{Declarations, nothing_declared, declare_all}
-use Rattle.cdl_command.specs.Wiring.{Wire, Joins, no_joins, join_all, source_of, sink_of, source_at}
+use Rattle.cdl_command.specs.Wiring.{Wire, Joins, wire_of, no_joins, join_all, source_of, sink_of, source_at}
 use Rattle.cdl_command.specs.Circuits.{Wired, circuit_of, computed, value_of, gate_values, is_ready, output_values}
-use Rattle.cdl_command.specs.Model.{IsModel, block_of, with_wiring, is_reserved}
+use Rattle.cdl_command.specs.Model.{IsModel, block_of, gates_in, with_wiring, is_reserved}
 use Rattle.cdl_table.specs.IsTable.{AreRows, AreWords, before_all}
 use Rattle.cdl_table.specs.TableRow.{TableRow}
 use Rattle.cdl_table.specs.Trace.{header_text, record_text}
 use Rattle.cdl_table.specs.declared.column.Column.{Column}
 use Rattle.cdl_command.specs.Rows.{values_of as row_values, words_of}
+use Rattle.cdl_command.specs.Simple.{simple_block}
 use Rattle.cdl_command.specs.Runs.{HasItsOutputs, records_text, trace_text}
 use Rattle.cdl_command.specs.Tables.{columns_of, boolean_column}
-use Rattle.cdl_command.specs.Solution.{Valuation, gate_output, GatesCompute, Solves, HasSolution, outputs_in, IsConnector, AreRecords, IsTrace, wires_of}
+use Rattle.cdl_command.specs.Solution.{Valuation, gate_output, GatesCompute, Solves, HasSolution, outputs_in, IsConnector, AreRecords, IsTrace, statements_of, wires_of}
 use Rattle.cdl_command.specs.declared.part.GateKind.{GateKind}
 use Rattle.cdl_command.specs.declared.part.GateKind.TheVariants.{And, Or, Not}
 use Rattle.cdl_command.specs.declared.wiring.Source.{Source}
@@ -267,18 +270,25 @@ with_circuit tree d j block (Some c) at e n joined =
     let same : record { declared = d; circuit = c } ≡ block = cc e in
     subst (TreeBlock tree) same (record { j = j; is = record { named = n; joined = joined; circuit = at } })
 
-pub tree_block : (class : List ℕ) (tree : FileTree) (block : GateBlock) → block_of class tree ≡ Some block → TreeBlock tree block
-tree_block class tree block e =
-    elim (cases_Bool (bytes_eq tree.name.text class && not (is_reserved class))) [
+simple_gates : (class : List ℕ) (tree : FileTree) (b : ClassTree) (block : GateBlock) → wires_of tree ≡ map wire_of (connects_of b) → gates_in class b ≡ Some block → TreeBlock tree block
+simple_gates class tree b block wires e =
+    elim (cases_Bool (bytes_eq (class_name b).text class && not (is_reserved class))) [
       | inr other ↦ let none = rw other at e in absurd (cc none)
       | inl right ↦
-          let there : option_and_then (with_wiring tree) (declare_all nothing_declared tree.items) ≡ Some block = rw right at e in
-          option_and_then_some {P = TreeBlock tree block} (with_wiring tree) (declare_all nothing_declared tree.items) block there
+          let there : option_and_then (with_wiring b) (declare_all nothing_declared (items_of b)) ≡ Some block = rw right at e in
+          option_and_then_some {P = TreeBlock tree block} (with_wiring b) (declare_all nothing_declared (items_of b)) block there
           (λ d declared wiring.
           option_and_then_some {P = TreeBlock tree block} (λ j. option_map (λ c. record { declared = d; circuit = c }) (circuit_of d j))
-          (join_all d (no_joins d) (wires_of tree)) block wiring
-          (λ j joined circuit. with_circuit tree d j block (circuit_of d j) refl circuit (named d tree.items declared) joined))
+          (join_all d (no_joins d) (map wire_of (connects_of b))) block wiring
+          (λ j joined circuit.
+          let here : join_all d (no_joins d) (wires_of tree) ≡ Some j = ap (join_all d (no_joins d)) wires ∙ joined in
+          with_circuit tree d j block (circuit_of d j) refl circuit (named d (items_of b) declared) here))
     ]
+
+pub tree_block : (class : List ℕ) (tree : FileTree) (block : GateBlock) → block_of class tree ≡ Some block → TreeBlock tree block
+tree_block class tree block e =
+    option_and_then_some {P = TreeBlock tree block} (gates_in class) (simple_block tree) block e
+    (λ b is gates. simple_gates class tree b block (ap (λ (o : Option ClassTree). map wire_of (statements_of o)) is) gates)
 
 -- A model's circuit has as many outputs as it declares.
 pub model_outputs : (class bytes : List ℕ) (block : GateBlock) → IsModel class bytes block → HasItsOutputs block

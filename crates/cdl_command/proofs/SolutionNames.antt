@@ -7,7 +7,7 @@ use Rattle.std.proofs.lemmas.Bool.{cases_Bool, cases_lt, false≢true}
 use Rattle.std.proofs.lemmas.List.{get_or_append_left, get_or_push, length-append}
 use Rattle.std.proofs.lemmas.Option.{option_and_then_some}
 use Rattle.std.proofs.lemmas.Slice.Eq.{bytes_eq-Decides}
-use Rattle.cdl_parse.specs.declared.tree.Item.{Item}
+use Rattle.cdl_tree.specs.declared.class.Item.{Item}
 use Rattle.cdl_command.specs.Names.{first_from, place_of}
 use Rattle.cdl_command.specs.Parts.{part_of, texts_of, is_type_name}
 use Rattle.cdl_command.specs.Blocks.{Declarations, nothing_declared, is_declared, with_part, declare, declare_all}

@@ -1,7 +1,7 @@
 -- Joining what the statements of a block name, one after another.
 use Rattle.std.proofs.Common.{◌≡◌, ◌<◌, ◌∙◌, ◌+◌, ℕ, Bool, true, false, List, Option, Some, None, length, drop, map, get_or, refl, sym, add-one}
 use Rattle.std.specs.Prelude.{if◌then◌else◌}
-use Rattle.cdl_parse.specs.declared.tree.Connect.{Connect}
+use Rattle.cdl_tree.specs.declared.class.Connect.{Connect}
 use Rattle.cdl_command.specs.Blocks.{Declarations}
 use Rattle.cdl_command.specs.Wiring.{Joins, join, join_all, wire_of}
 use Rattle.cdl_command.proofs.BlockFacts.{drop_here, none_at_false, some_at_true}

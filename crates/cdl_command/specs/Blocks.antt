@@ -1,7 +1,7 @@
 -- What a block declares.
 use Rattle.std.specs.Prelude.{ℕ, ◌||◌, Bool, List, [], ◌∷◌, ◌++◌, Option, Some, None, is_some, option_and_then, if◌then◌else◌}
 use Rattle.std.specs.Option.{option_map}
-use Rattle.cdl_parse.specs.declared.tree.Item.{Item}
+use Rattle.cdl_tree.specs.declared.class.Item.{Item}
 use Rattle.cdl_command.specs.Names.{place_of}
 use Rattle.cdl_command.specs.Parts.{texts_of, part_of, is_type_name}
 use Rattle.cdl_command.specs.declared.part.GateKind.{GateKind}

@@ -1,8 +1,14 @@
 -- The rules of a block of logical gates, each as a relation of its tree.
-use Rattle.std.specs.Prelude.{◌≡◌, ◌⊎◌, ℕ, ◌<◌, false, List, [], ◌∷◌, map, slice_get, Option, Some, codes}
+use Rattle.std.specs.Prelude.{◌≡◌, ◌⊎◌, ℕ, ◌<◌, false, List, [], ◌∷◌, map, slice_get, Option, Some, None, codes}
 use Rattle.std.specs.Option.{IsSome}
-use Rattle.cdl_parse.specs.declared.tree.Item.{Item}
-use Rattle.cdl_parse.specs.declared.tree.FileTree.{FileTree}
+use Rattle.cdl_source.specs.declared.place.Span.{Span}
+use Rattle.cdl_tree.specs.declared.name.Ident.{Ident}
+use Rattle.cdl_tree.specs.declared.class.Prefix.TheVariants.{Plain}
+use Rattle.cdl_tree.specs.declared.class.Item.{Item}
+use Rattle.cdl_tree.specs.declared.class.Ref.{Ref}
+use Rattle.cdl_tree.specs.declared.class.Connect.{Connect}
+use Rattle.cdl_tree.specs.declared.class.ClassTree.TheVariants.{Block}
+use Rattle.cdl_tree.specs.declared.class.FileTree.{FileTree}
 use Rattle.cdl_command.specs.Parts.{texts_of, part_of, is_type_name}
 use Rattle.cdl_command.specs.Blocks.{Declarations}
 use Rattle.cdl_command.specs.Wiring.{Wire, wire_of}
@@ -124,21 +130,44 @@ pub record IsWiring (d : Declarations) (wires : List Wire) : Type 0 where
   -- no gate takes a value from itself or from one that is declared behind it
   pub forward : Each (λ w. IsForward d w.source w.sink) wires
 
+-- The item is declared by its class and its name alone.
+pub record IsPlain (item : Item) : Type 0 where
+  pub no_prefix : item.prefix ≡ Plain
+  pub not_final : item.is_final ≡ false
+  pub no_dims : item.dims ≡ []
+  pub no_args : item.args ≡ []
+  pub no_value : item.value ≡ None
+  pub no_condition : item.condition ≡ None
+
+-- No part of the reference has a subscript.
+abbrev pub IsStraight : Ref → Type 0
+IsStraight reference = Each (λ part. part.subs ≡ []) reference.parts
+
 -- The tree is a block of this class.
 pub record IsForm (class : List ℕ) (tree : FileTree) : Type 0 where
+  -- one block stands in the file, which names no package
+  pub name : Ident
+  pub items : List Item
+  pub connects : List Connect
+  pub span : Span
+  pub within : tree.within ≡ None
+  pub alone : tree.classes ≡ Block name items connects span ∷ []
   -- it has the name of the class, which is free
-  pub named : tree.name.text ≡ class
+  pub named : name.text ≡ class
   pub free : is_reserved class ≡ false
-  -- each item is a connector or a gate, with a name of its own that is no type's
-  pub known : Each (λ item. IsSome (part_in item)) tree.items
-  pub distinct : Differ name_of tree.items
-  pub untyped : Each (λ item. is_type_name (name_of item) ≡ false) tree.items
-  -- the statements wire what the items declare
-  pub wiring : IsWiring (declarations_of tree.items) (map wire_of tree.connects)
+  -- each item is a plain connector or gate, with a name of its own that is no type's
+  pub plain : Each IsPlain items
+  pub known : Each (λ item. IsSome (part_in item)) items
+  pub distinct : Differ name_of items
+  pub untyped : Each (λ item. is_type_name (name_of item) ≡ false) items
+  -- the statements wire what the items declare, without subscripts
+  pub straight : Each (λ c. IsStraight c.left × IsStraight c.right) connects
+  pub wiring : IsWiring (declarations_of items) (map wire_of connects)
 
 -- Each tree that gives a block is a block by the rules, and the block has the declarations of its items.
 abbrev pub IsSound : Type 0
-IsSound = (class : List ℕ) (tree : FileTree) (block : GateBlock) → block_of class tree ≡ Some block → IsForm class tree × (block.declared ≡ declarations_of tree.items)
+IsSound = (class : List ℕ) (tree : FileTree) (block : GateBlock) → block_of class tree ≡ Some block
+    → (form : IsForm class tree) × (block.declared ≡ declarations_of form.items)
 
 -- Each tree that is a block by the rules gives a block.
 abbrev pub IsComplete : Type 0

@@ -5,6 +5,7 @@ pub mod Parts
 pub mod Blocks
 pub mod Wiring
 pub mod Circuits
+pub mod Simple
 pub mod Tables
 pub mod Rows
 pub mod Solution

@@ -1,14 +1,19 @@
 -- What a block of logical gates declares, and what its statements join.
 use Rattle.std.specs.Prelude.{ℕ, ◌&&◌, ◌||◌, Bool, List, [], ◌∷◌, map, Option, Some, None, if◌then◌else◌, codes}
 use Rattle.std.specs.Str.{bytes_eq}
-use Rattle.cdl_parse.specs.declared.tree.Ident.{Ident}
+use Rattle.cdl_tree.specs.declared.name.Ident.{Ident}
+use Rattle.cdl_tree.specs.declared.class.Part.{Part as Step}
 use Rattle.cdl_command.specs.declared.part.GateKind.TheVariants.{And, Or, Not}
 use Rattle.cdl_command.specs.declared.part.Part.{Part}
 use Rattle.cdl_command.specs.declared.part.Part.TheVariants.{Input, Output, Gate}
 
--- the identifiers of a name, and of a reference
+-- the identifiers of a name
 abbrev pub texts_of : List Ident → List (List ℕ)
 texts_of parts = map (λ p. p.text) parts
+
+-- the identifiers of a reference
+abbrev pub steps_of : List Step → List (List ℕ)
+steps_of parts = map (λ p. p.name.text) parts
 
 -- what the library's `Interfaces` and `Logical` have under a name
 abbrev pub connector : List ℕ → Option Part

@@ -1,11 +1,15 @@
 -- What the statements of a block say: its equations at one tick, apart from the way they are computed.
-use Rattle.std.specs.Prelude.{◌≡◌, ◌⊎◌, ℕ, ◌&&◌, ◌||◌, not, Bool, List, [], ◌∷◌, ◌++◌, map, codes, Some}
+use Rattle.std.specs.Prelude.{◌≡◌, ◌⊎◌, ℕ, ◌&&◌, ◌||◌, not, Bool, List, [], ◌∷◌, ◌++◌, map, codes, Option, Some, None}
 use Rattle.std.specs.List.{All}
-use Rattle.cdl_parse.specs.declared.tree.FileTree.{FileTree}
+use Rattle.cdl_tree.specs.declared.class.ClassTree.{ClassTree}
+use Rattle.cdl_tree.specs.declared.class.Connect.{Connect}
+use Rattle.cdl_tree.specs.declared.class.FileTree.{FileTree}
+use Rattle.cdl_tree.specs.Parts.{connects_of}
 use Rattle.cdl_table.specs.TableRow.{TableRow}
 use Rattle.cdl_table.specs.Trace.{header_text, record_text}
 use Rattle.cdl_command.specs.Blocks.{Declarations}
 use Rattle.cdl_command.specs.Rows.{values_of, words_of}
+use Rattle.cdl_command.specs.Simple.{simple_block}
 use Rattle.cdl_command.specs.Tables.{columns_of}
 use Rattle.cdl_command.specs.Wiring.{Wire, wire_of, source_of, sink_of}
 use Rattle.cdl_command.specs.declared.part.GateKind.{GateKind}
@@ -38,9 +42,13 @@ pub record Solves (d : Declarations) (wires : List Wire) (row : List Bool) (v : 
   pub ends : All (λ w. v w.sink ≡ v w.source) wires
   pub gates : GatesCompute v d.gates d.kinds
 
--- the wires of a text with this tree: one for each of its statements
+abbrev pub statements_of : Option ClassTree → List Connect
+statements_of (Some block) = connects_of block
+statements_of None = []
+
+-- the wires of a text with this tree: one for each statement of its block
 abbrev pub wires_of : FileTree → List Wire
-wires_of tree = map wire_of tree.connects
+wires_of tree = map wire_of (statements_of (simple_block tree))
 
 -- the values of the own outputs
 abbrev pub outputs_in : Valuation → Declarations → List Bool

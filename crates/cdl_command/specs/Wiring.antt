@@ -2,9 +2,9 @@
 use Rattle.std.specs.Prelude.{ℕ, List, [], ◌∷◌, length, replicate, get_or, slice_get, slice_set, Option, Some, None, is_some, option_and_then, if◌then◌else◌, codes}
 use Rattle.std.specs.Option.{option_map}
 use Rattle.std.specs.Str.{bytes_eq}
-use Rattle.cdl_parse.specs.declared.tree.Connect.{Connect}
+use Rattle.cdl_tree.specs.declared.class.Connect.{Connect}
 use Rattle.cdl_command.specs.Names.{place_of}
-use Rattle.cdl_command.specs.Parts.{texts_of}
+use Rattle.cdl_command.specs.Parts.{steps_of}
 use Rattle.cdl_command.specs.Blocks.{Declarations}
 use Rattle.cdl_command.specs.declared.part.GateKind.{GateKind}
 use Rattle.cdl_command.specs.declared.part.GateKind.TheVariants.{Not}
@@ -19,7 +19,7 @@ pub record Wire : Type 0 where
   pub sink : List (List ℕ)
 
 abbrev pub wire_of : Connect → Wire
-wire_of c = record { source = texts_of c.left.parts; sink = texts_of c.right.parts }
+wire_of c = record { source = steps_of c.left.parts; sink = steps_of c.right.parts }
 
 -- what a reference gives values from: an own input, or the output `y` of a gate
 abbrev pub source_of : Declarations → List (List ℕ) → Option Source

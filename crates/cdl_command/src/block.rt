@@ -5,8 +5,8 @@ ghost use Rattle.cdl_command.specs.Names.{place_of};
 
 use crate::names::NameTable;
 use crate::part::{GateKind, Part, is_type_name, part_of};
-use cdl_parse::Item;
 use cdl_source::{OutOfMemory, Text};
+use cdl_tree::Item;
 use std::alloc::Global;
 use std::marker::Model;
 

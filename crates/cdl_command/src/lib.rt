@@ -12,6 +12,7 @@ mod outcome;
 mod part;
 mod report;
 mod run;
+mod simple;
 mod top;
 mod trace;
 mod wiring;

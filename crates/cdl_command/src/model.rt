@@ -5,10 +5,12 @@ ghost use Rattle.cdl_command.specs.Model as spec;
 use crate::block::{Block, declared};
 use crate::circuit::{Circuit, circuit_of};
 use crate::part::is_type_name;
+use crate::simple::simple_block;
 use crate::wiring::wired;
 use cdl_lex::{LexFault, Tokens, lex};
-use cdl_parse::{FileTree, ParseFault, parse};
+use cdl_parse::{ParseFault, parse};
 use cdl_source::OutOfMemory;
+use cdl_tree::{ClassTree, FileTree};
 use std::alloc::Global;
 
 /// A block of logical gates: what it declares, and what its gates and outputs take their values from.
@@ -43,12 +45,12 @@ fn is_reserved(class: &[u8]) -> bool
 
 fn with_wiring(
     alloc: Global,
-    tree: &FileTree,
+    tree: &ClassTree,
     declared: Block,
 ) -> Result<Option<GateBlock>, OutOfMemory>
     ensures { IfOk result (λ block. block ≡ spec.with_wiring tree.now declared) }
 {
-    let Some(wiring) = wired(alloc, &declared, tree.connects.items())? else {
+    let Some(wiring) = wired(alloc, &declared, tree.connects())? else {
         return Ok(None);
     };
     match circuit_of(alloc, &declared, &wiring)? {
@@ -57,15 +59,25 @@ fn with_wiring(
     }
 }
 
-/// The block of a tree, if it is one of this class.
+// What a simple block gives, if it is one of this class.
+fn gates_in(alloc: Global, class: &str, tree: &ClassTree) -> Result<Option<GateBlock>, OutOfMemory>
+    ensures { IfOk result (λ block. block ≡ spec.gates_in class.now tree.now) }
+{
+    if tree.name().text.bytes() != class.as_bytes() || is_reserved(class.as_bytes()) {
+        return Ok(None);
+    }
+    match declared(alloc, tree.items())? {
+        Some(block) => with_wiring(alloc, tree, block),
+        None => Ok(None),
+    }
+}
+
+/// The block of a file's tree, if it is one of this class.
 fn block_of(alloc: Global, class: &str, tree: &FileTree) -> Result<Option<GateBlock>, OutOfMemory>
     ensures { IfOk result (λ block. block ≡ spec.block_of class.now tree.now) }
 {
-    if tree.name.text.bytes() != class.as_bytes() || is_reserved(class.as_bytes()) {
-        return Ok(None);
-    }
-    match declared(alloc, tree.items.items())? {
-        Some(block) => with_wiring(alloc, tree, block),
+    match simple_block(tree) {
+        Some(block) => gates_in(alloc, class, block),
         None => Ok(None),
     }
 }

@@ -2,7 +2,7 @@
 ghost use Rattle.std.specs.Prelude.{◌≡◌};
 ghost use Rattle.cdl_command.specs.Parts as spec;
 
-use cdl_parse::{Ident, Name};
+use cdl_tree::{Ident, Name};
 
 /// What a gate computes.
 #[derive(Clone, Copy)]

@@ -79,9 +79,9 @@ const CASES: [Case<'static>; 16] = [
         words: RUN,
         model: "block M end M;",
         table: b"time\n",
-        code: 1,
-        out: "",
-        err: NO_MODEL,
+        code: 0,
+        out: "time\n",
+        err: "",
     },
     Case {
         words: RUN,
@@ -289,7 +289,7 @@ const TABLES: [(&[u8], &str, &str); 32] = [
 ];
 
 // Texts, and whether they are a model: each rule is broken alone beside the nearest text that keeps it.
-const MODELS: [(&str, bool); 21] = [
+const MODELS: [(&str, bool); 44] = [
     (
         "block M Buildings.Controls.OBC.CDL.Interfaces.BooleanInput u; Buildings.Controls.OBC.CDL.Interfaces.BooleanOutput y; Buildings.Controls.OBC.CDL.Logical.Not n; Buildings.Controls.OBC.CDL.Logical.And a; equation connect(u, n.u); connect(n.y, a.u1); connect(u, a.u2); connect(a.y, y); end M;",
         true,
@@ -300,11 +300,11 @@ const MODELS: [(&str, bool); 21] = [
     ),
     (
         "block M Buildings.Controls.OBC.CDL.Interfaces.BooleanInput u; Buildings.Controls.OBC.CDL.Interfaces.BooleanOutput y; Buildings.Controls.OBC.CDL.Logical.Not n; Buildings.Controls.OBC.CDL.Logical.And a; equation connect(u, n.u); connect(n.y, a.u1); connect(u, a.u2); connect(a.y, y); end M; // end",
-        false,
+        true,
     ),
     (
         "\u{feff}block M Buildings.Controls.OBC.CDL.Interfaces.BooleanInput u; Buildings.Controls.OBC.CDL.Interfaces.BooleanOutput y; Buildings.Controls.OBC.CDL.Logical.Not n; Buildings.Controls.OBC.CDL.Logical.And a; equation connect(u, n.u); connect(n.y, a.u1); connect(u, a.u2); connect(a.y, y); end M;",
-        false,
+        true,
     ),
     (
         "block M Buildings.Controls.OBC.CDL.Interfaces.BooleanInput u; Buildings.Controls.OBC.CDL.Interfaces.BooleanOutput y; Buildings.Controls.OBC.CDL.Logical.Not xxxxxxxxxxxxxxxxxxxxxxxxxxxxxxxxxxxxxxxxxxxxxxxxxxxxxxxxxxxxxxxx; Buildings.Controls.OBC.CDL.Logical.And a; equation connect(u, xxxxxxxxxxxxxxxxxxxxxxxxxxxxxxxxxxxxxxxxxxxxxxxxxxxxxxxxxxxxxxxx.u); connect(xxxxxxxxxxxxxxxxxxxxxxxxxxxxxxxxxxxxxxxxxxxxxxxxxxxxxxxxxxxxxxxx.y, a.u1); connect(u, a.u2); connect(a.y, y); end M;",
@@ -372,6 +372,97 @@ const MODELS: [(&str, bool); 21] = [
     ),
     (
         "block N Buildings.Controls.OBC.CDL.Interfaces.BooleanInput u; Buildings.Controls.OBC.CDL.Interfaces.BooleanOutput y; Buildings.Controls.OBC.CDL.Logical.Not n; Buildings.Controls.OBC.CDL.Logical.And a; equation connect(u, n.u); connect(n.y, a.u1); connect(u, a.u2); connect(a.y, y); end N;",
+        false,
+    ),
+    // What the whole language has beyond a block of gates, and does not change it: comments, sections, description strings, annotations, several names in a clause.
+    (
+        "/* a block */ block M Buildings.Controls.OBC.CDL.Interfaces.BooleanInput u; Buildings.Controls.OBC.CDL.Interfaces.BooleanOutput y; Buildings.Controls.OBC.CDL.Logical.Not n; Buildings.Controls.OBC.CDL.Logical.And a; equation connect(u, n.u); connect(n.y, a.u1); connect(u, a.u2); connect(a.y, y); end M;",
+        true,
+    ),
+    (
+        "/* a block block M Buildings.Controls.OBC.CDL.Interfaces.BooleanInput u; Buildings.Controls.OBC.CDL.Interfaces.BooleanOutput y; Buildings.Controls.OBC.CDL.Logical.Not n; Buildings.Controls.OBC.CDL.Logical.And a; equation connect(u, n.u); connect(n.y, a.u1); connect(u, a.u2); connect(a.y, y); end M;",
+        false,
+    ),
+    (
+        "block M public Buildings.Controls.OBC.CDL.Interfaces.BooleanInput u; Buildings.Controls.OBC.CDL.Interfaces.BooleanOutput y; Buildings.Controls.OBC.CDL.Logical.Not n; Buildings.Controls.OBC.CDL.Logical.And a; equation connect(u, n.u); connect(n.y, a.u1); connect(u, a.u2); connect(a.y, y); end M;",
+        true,
+    ),
+    (
+        "block M protected Buildings.Controls.OBC.CDL.Interfaces.BooleanInput u; Buildings.Controls.OBC.CDL.Interfaces.BooleanOutput y; Buildings.Controls.OBC.CDL.Logical.Not n; Buildings.Controls.OBC.CDL.Logical.And a; equation connect(u, n.u); connect(n.y, a.u1); connect(u, a.u2); connect(a.y, y); end M;",
+        true,
+    ),
+    (
+        "block M \"gates\" Buildings.Controls.OBC.CDL.Interfaces.BooleanInput u \"the input\"; Buildings.Controls.OBC.CDL.Interfaces.BooleanOutput y; Buildings.Controls.OBC.CDL.Logical.Not n; Buildings.Controls.OBC.CDL.Logical.And a; equation connect(u, n.u) \"first\"; connect(n.y, a.u1); connect(u, a.u2); connect(a.y, y); end M;",
+        true,
+    ),
+    (
+        "block M Buildings.Controls.OBC.CDL.Interfaces.BooleanInput u annotation(Placement(extent = {{1, 2}, {3, 4}})); Buildings.Controls.OBC.CDL.Interfaces.BooleanOutput y; Buildings.Controls.OBC.CDL.Logical.Not n; Buildings.Controls.OBC.CDL.Logical.And a; annotation(version = \"1\"); equation connect(u, n.u) annotation(Line(points = {{1, 2}})); connect(n.y, a.u1); connect(u, a.u2); connect(a.y, y); annotation(Icon()); end M;",
+        true,
+    ),
+    (
+        "block M Buildings.Controls.OBC.CDL.Interfaces.BooleanInput u annotation(Placement(extent = {1, 2)); Buildings.Controls.OBC.CDL.Interfaces.BooleanOutput y; Buildings.Controls.OBC.CDL.Logical.Not n; Buildings.Controls.OBC.CDL.Logical.And a; equation connect(u, n.u); connect(n.y, a.u1); connect(u, a.u2); connect(a.y, y); end M;",
+        false,
+    ),
+    (
+        "block M Buildings.Controls.OBC.CDL.Interfaces.BooleanInput u; Buildings.Controls.OBC.CDL.Interfaces.BooleanOutput y; Buildings.Controls.OBC.CDL.Logical.Not n, m; Buildings.Controls.OBC.CDL.Logical.And a; equation connect(u, n.u); connect(n.y, m.u); connect(m.y, a.u1); connect(n.y, a.u2); connect(a.y, y); end M;",
+        true,
+    ),
+    (
+        "within; block M Buildings.Controls.OBC.CDL.Interfaces.BooleanInput u; Buildings.Controls.OBC.CDL.Interfaces.BooleanOutput y; Buildings.Controls.OBC.CDL.Logical.Not n; Buildings.Controls.OBC.CDL.Logical.And a; equation connect(u, n.u); connect(n.y, a.u1); connect(u, a.u2); connect(a.y, y); end M;",
+        true,
+    ),
+    // What it has beyond, and is not built: a package, other classes, parameters, values, arguments, conditions, dimensions and subscripts.
+    (
+        "within P; block M Buildings.Controls.OBC.CDL.Interfaces.BooleanInput u; Buildings.Controls.OBC.CDL.Interfaces.BooleanOutput y; Buildings.Controls.OBC.CDL.Logical.Not n; Buildings.Controls.OBC.CDL.Logical.And a; equation connect(u, n.u); connect(n.y, a.u1); connect(u, a.u2); connect(a.y, y); end M;",
+        false,
+    ),
+    (
+        "block M Buildings.Controls.OBC.CDL.Interfaces.BooleanInput u; Buildings.Controls.OBC.CDL.Interfaces.BooleanOutput y; Buildings.Controls.OBC.CDL.Logical.Not n; Buildings.Controls.OBC.CDL.Logical.And a; equation connect(u, n.u); connect(n.y, a.u1); connect(u, a.u2); connect(a.y, y); end M; block N end N;",
+        false,
+    ),
+    (
+        "package M block N Buildings.Controls.OBC.CDL.Interfaces.BooleanInput u; Buildings.Controls.OBC.CDL.Interfaces.BooleanOutput y; Buildings.Controls.OBC.CDL.Logical.Not n; Buildings.Controls.OBC.CDL.Logical.And a; equation connect(u, n.u); connect(n.y, a.u1); connect(u, a.u2); connect(a.y, y); end N; end M;",
+        false,
+    ),
+    ("type M = enumeration(a, b);", false),
+    (
+        "block M parameter Real k = 1.5; Buildings.Controls.OBC.CDL.Interfaces.BooleanInput u; Buildings.Controls.OBC.CDL.Interfaces.BooleanOutput y; Buildings.Controls.OBC.CDL.Logical.Not n; Buildings.Controls.OBC.CDL.Logical.And a; equation connect(u, n.u); connect(n.y, a.u1); connect(u, a.u2); connect(a.y, y); end M;",
+        false,
+    ),
+    (
+        "block M parameter Buildings.Controls.OBC.CDL.Interfaces.BooleanInput u; Buildings.Controls.OBC.CDL.Interfaces.BooleanOutput y; Buildings.Controls.OBC.CDL.Logical.Not n; Buildings.Controls.OBC.CDL.Logical.And a; equation connect(u, n.u); connect(n.y, a.u1); connect(u, a.u2); connect(a.y, y); end M;",
+        false,
+    ),
+    (
+        "block M constant Buildings.Controls.OBC.CDL.Interfaces.BooleanInput u; Buildings.Controls.OBC.CDL.Interfaces.BooleanOutput y; Buildings.Controls.OBC.CDL.Logical.Not n; Buildings.Controls.OBC.CDL.Logical.And a; equation connect(u, n.u); connect(n.y, a.u1); connect(u, a.u2); connect(a.y, y); end M;",
+        false,
+    ),
+    (
+        "block M final Buildings.Controls.OBC.CDL.Interfaces.BooleanInput u; Buildings.Controls.OBC.CDL.Interfaces.BooleanOutput y; Buildings.Controls.OBC.CDL.Logical.Not n; Buildings.Controls.OBC.CDL.Logical.And a; equation connect(u, n.u); connect(n.y, a.u1); connect(u, a.u2); connect(a.y, y); end M;",
+        false,
+    ),
+    (
+        "block M Buildings.Controls.OBC.CDL.Interfaces.BooleanInput u = true; Buildings.Controls.OBC.CDL.Interfaces.BooleanOutput y; Buildings.Controls.OBC.CDL.Logical.Not n; Buildings.Controls.OBC.CDL.Logical.And a; equation connect(u, n.u); connect(n.y, a.u1); connect(u, a.u2); connect(a.y, y); end M;",
+        false,
+    ),
+    (
+        "block M Buildings.Controls.OBC.CDL.Interfaces.BooleanInput u(start = true); Buildings.Controls.OBC.CDL.Interfaces.BooleanOutput y; Buildings.Controls.OBC.CDL.Logical.Not n; Buildings.Controls.OBC.CDL.Logical.And a; equation connect(u, n.u); connect(n.y, a.u1); connect(u, a.u2); connect(a.y, y); end M;",
+        false,
+    ),
+    (
+        "block M Buildings.Controls.OBC.CDL.Interfaces.BooleanInput u if true; Buildings.Controls.OBC.CDL.Interfaces.BooleanOutput y; Buildings.Controls.OBC.CDL.Logical.Not n; Buildings.Controls.OBC.CDL.Logical.And a; equation connect(u, n.u); connect(n.y, a.u1); connect(u, a.u2); connect(a.y, y); end M;",
+        false,
+    ),
+    (
+        "block M Buildings.Controls.OBC.CDL.Interfaces.BooleanInput u[1]; Buildings.Controls.OBC.CDL.Interfaces.BooleanOutput y; Buildings.Controls.OBC.CDL.Logical.Not n; Buildings.Controls.OBC.CDL.Logical.And a; equation connect(u, n.u); connect(n.y, a.u1); connect(u, a.u2); connect(a.y, y); end M;",
+        false,
+    ),
+    (
+        "block M Buildings.Controls.OBC.CDL.Interfaces.BooleanInput u; Buildings.Controls.OBC.CDL.Interfaces.BooleanOutput y; Buildings.Controls.OBC.CDL.Logical.Not n; Buildings.Controls.OBC.CDL.Logical.And a; equation connect(u[1], n.u); connect(n.y, a.u1); connect(u, a.u2); connect(a.y, y); end M;",
+        false,
+    ),
+    (
+        "block M Buildings.Controls.OBC.CDL.Interfaces.BooleanInput u; Buildings.Controls.OBC.CDL.Interfaces.BooleanOutput y; Buildings.Controls.OBC.CDL.Logical.Not n; Buildings.Controls.OBC.CDL.Logical.And a; equation connect(u, n[:].u); connect(n.y, a.u1); connect(u, a.u2); connect(a.y, y); end M;",
         false,
     ),
 ];

@@ -1,13 +1,13 @@
 // What the statements of a block join.
 ghost use Rattle.std.specs.Prelude.{◌≡◌, Some, None, map, get_or, slice_set, replicate, IfOk, if◌then◌else◌};
 ghost use Rattle.std.specs.Option.{option_map};
-ghost use Rattle.cdl_command.specs.Parts.{texts_of};
+ghost use Rattle.cdl_command.specs.Parts.{steps_of};
 ghost use Rattle.cdl_command.specs.Wiring as spec;
 
 use crate::block::Block;
 use crate::part::GateKind;
-use cdl_parse::{Connect, Ref};
 use cdl_source::OutOfMemory;
+use cdl_tree::{Connect, Ref};
 use std::alloc::Global;
 use std::marker::Model;
 
@@ -28,15 +28,15 @@ pub(crate) enum Sink {
 
 /// The source that a reference names: an own input, or the output `y` of a gate.
 fn source_of(block: &Block, reference: &Ref) -> Option<Source>
-    ensures { result ≡ spec.source_of block.now (texts_of reference.now.parts) }
+    ensures { result ≡ spec.source_of block.now (steps_of reference.now.parts) }
 {
     match reference.parts.items() {
-        [name] => block.input(name.text.bytes()).map(Source::Input),
+        [own] => block.input(own.name.text.bytes()).map(Source::Input),
         [gate, port] => {
-            if port.text.bytes() != b"y".as_slice() {
+            if port.name.text.bytes() != b"y".as_slice() {
                 return None;
             }
-            block.gate(gate.text.bytes()).map(Source::Gate)
+            block.gate(gate.name.text.bytes()).map(Source::Gate)
         }
         _ => None,
     }
@@ -78,11 +78,11 @@ fn gate_input(block: &Block, gate: &[u8], port: &[u8]) -> Option<Sink>
 
 /// The sink that a reference names: an own output, or an input of a gate.
 fn sink_of(block: &Block, reference: &Ref) -> Option<Sink>
-    ensures { result ≡ spec.sink_of block.now (texts_of reference.now.parts) }
+    ensures { result ≡ spec.sink_of block.now (steps_of reference.now.parts) }
 {
     match reference.parts.items() {
-        [name] => block.output(name.text.bytes()).map(Sink::Output),
-        [gate, port] => gate_input(block, gate.text.bytes(), port.text.bytes()),
+        [own] => block.output(own.name.text.bytes()).map(Sink::Output),
+        [gate, port] => gate_input(block, gate.name.text.bytes(), port.name.text.bytes()),
         _ => None,
     }
 }

@@ -1,168 +1,127 @@
 -- How the splittings of a text go on from a place.
-use Rattle.std.proofs.Common.{◌≡◌, ℕ, ◌+◌, ◌≤◌, ◌<◌, true, false, List, [], ◌∷◌, ◌++◌, length, drop, refl, sym, ap, ◌∙◌, subst, arith, append_assoc, append-nil, length-drop, drop-cons, add-one, get_or}
-use Rattle.std.proofs.lemmas.List.{drop-drop, drop_all, get_or-drop}
-use Rattle.std.proofs.lemmas.List.Sums.{prefix_len_stops}
+use Rattle.std.proofs.Common.{◌≡◌, ◌⊎◌, inl, inr, ℕ, ◌+◌, ◌-◌, Bool, true, false, nat_le, ◌≤◌, ◌<◌, List, [], ◌∷◌, ◌++◌, length, drop, Option, refl, sym, ap, ◌∙◌, subst, arith, append_assoc, append-nil, length-drop}
+use Rattle.std.proofs.lemmas.Bool.{leb-true}
+use Rattle.std.proofs.lemmas.Bool.Decides.{nat_tests}
+use Rattle.std.proofs.lemmas.List.{drop-drop, drop_all}
 use Rattle.std.proofs.Math.Seq.{drop-append_seam}
-use Rattle.std.specs.List.{list_all, prefix_len}
 use Rattle.cdl_source.specs.declared.place.Sort.{Sort}
 use Rattle.cdl_source.specs.declared.place.Token.{Token}
-use Rattle.cdl_lex.specs.Spellings.{Bytes, is_blank, Spelling}
-use Rattle.cdl_lex.specs.Splits.{IsLongest, token, Splits, nothing, blank_then, token_then}
-use Rattle.cdl_lex.specs.Steps.{BeginsWith, begins, IsTokenAt, NoToken}
-use Rattle.cdl_lex.proofs.Runs.{both_true, Cut, cut, run_cuts}
-use Rattle.cdl_lex.proofs.Shapes.{shape, no_blank, not_empty, one_token}
+use Rattle.cdl_lex.specs.Spellings.{Bytes}
+use Rattle.cdl_lex.specs.Splits.{IsToken, IsGap, blank, line, block, token, Reaches, here, gap_then, token_then, mark, Begins, Splits, NothingBegins}
+use Rattle.cdl_lex.specs.Steps.{BeginsWith, with_gap, with_token, listed}
+use Rattle.cdl_lex.specs.Rules.{IsNoToken}
+use Rattle.cdl_lex.proofs.Spelled.{not_empty}
+use Rattle.cdl_lex.proofs.Gaps.{one_gap, one_token, not_both}
 
--- The splittings of b are those of c with these tokens in front.
+-- What is reached from c, with these tokens in front, is reached from b.
 pub record Continues (at : ℕ) (b : Bytes) (front : List Token) (to : ℕ) (c : Bytes) : Type 0 where
-  pub splits : (ts : List Token) → Splits to c ts → Splits at b (front ++ ts)
-  pub only : (ts : List Token) → Splits at b ts → (us : List Token) × (ts ≡ front ++ us) × Splits to c us
+  pub reaches : (ts : List Token) (r : Bytes) → Reaches to c ts r → Reaches at b (front ++ ts) r
 
 pub stays : (at : ℕ) (b : Bytes) → Continues at b [] at b
-stays at b = record { splits = λ ts h. h; only = λ ts h. (ts, refl, h) }
+stays at b = record { reaches = λ ts r h. h }
 
-pub goes_on : {at to end : ℕ} {b c d : Bytes} {front more : List Token} → Continues at b front to c → Continues to c more end d → Continues at b (front ++ more) end d
-goes_on {front = front} {more = more} f g = record {
-  splits = λ ts h. subst (Splits _ _) (sym (append_assoc front more ts)) (f.splits (more ++ ts) (g.splits ts h));
-  only = λ ts h.
-      let p = f.only ts h in
-      let q = g.only p.0 p.2 in
-      (q.0, p.1 ∙ ap (λ z. front ++ z) q.1 ∙ sym (append_assoc front more q.0), q.2);
+goes_on : {at to end : ℕ} {b c d : Bytes} {front more : List Token} → Continues at b front to c → Continues to c more end d → Continues at b (front ++ more) end d
+goes_on {at = at} {b = b} {front = front} {more = more} f g = record {
+  reaches = λ ts r h. subst (λ z. Reaches at b z r) (sym (append_assoc front more ts)) (f.reaches (more ++ ts) r (g.reaches ts r h));
 }
 
--- ---- a gap
+piece_continues : (at : ℕ) (b : Bytes) (k : Option Sort) (n : ℕ) → BeginsWith b k n → Continues at b (listed at k n) (at + n) (drop n b)
+piece_continues at _ _ _ (with_gap s b g) =
+    subst (Continues at (s ++ b) [] (at + length s)) (sym (drop-append_seam s b)) (record { reaches = λ ts r h. gap_then g h })
+piece_continues at _ _ _ (with_token s b {k} t) =
+    subst (Continues at (s ++ b) (token k at (length s) ∷ []) (at + length s)) (sym (drop-append_seam s b)) (record { reaches = λ ts r h. token_then t h })
 
-behind_blank : (at : ℕ) (c : ℕ) (b : Bytes) (ts : List Token) → is_blank c ≡ true → Splits at (c ∷ b) ts → Splits (at + 1) b ts
-behind_blank at c b ts f h = go (c ∷ b) ts h refl
-  where
-    by_token : (s r : Bytes) (us : List Token) (k : Sort) → Spelling s k → s ++ r ≡ c ∷ b → Splits (at + 1) b us
-    by_token [] r us k x e = absurd (not_empty (shape x) refl)
-    by_token (d ∷ ds) r us k x e =
-        let same : d ≡ c = cc in
-        let never : true ≡ false = sym f ∙ ap is_blank (sym same) ∙ no_blank (shape x) d ds refl in cc
+-- one piece more
+pub one_more : (from at n : ℕ) (b bytes : Bytes) (found : List Token) (k : Option Sort) → Continues from b found at (drop at bytes) → BeginsWith (drop at bytes) k n
+    → Continues from b (found ++ listed at k n) (at + n) (drop (at + n) bytes)
+one_more from at n b bytes found k h p =
+    goes_on h (subst (Continues at (drop at bytes) (listed at k n) (at + n)) (drop-drop n at bytes) (piece_continues at (drop at bytes) k n p))
 
-    go : (w : Bytes) (us : List Token) → Splits at w us → w ≡ c ∷ b → Splits (at + 1) b us
-    go _ _ (nothing _) e = cc
-    go _ _ (blank_then d {b = r} {ts = us} g h) e = let same : r ≡ b = cc in subst (λ z. Splits (at + 1) z us) same h
-    go _ _ (token_then {s = s} {b = r} {ts = us} {k = k} x long h) e = by_token s r (token k at (length s) ∷ us) k x e
-
-blank_continues : (at c : ℕ) (b : Bytes) → is_blank c ≡ true → Continues at (c ∷ b) [] (at + 1) b
-blank_continues at c b f = record { splits = λ ts h. blank_then c f h; only = λ ts h. (ts, refl, behind_blank at c b ts f h) }
-
-gap_continues : (at : ℕ) (s b : Bytes) → list_all is_blank s ≡ true → Continues at (s ++ b) [] (at + length s) b
-gap_continues at [] b all = let same : at ≡ at + 0 = omega arith in subst (λ z. Continues at b [] z b) same (stays at b)
-gap_continues at (c ∷ s) b all =
-    let both = both_true (is_blank c) (list_all is_blank s) all in
-    let same : (at + 1) + length s ≡ at + length (c ∷ s) = omega arith in
-    subst (λ z. Continues at (c ∷ (s ++ b)) [] z b) same (goes_on (blank_continues at c (s ++ b) both.0) (gap_continues (at + 1) s b both.1))
-
-cut_continues : (at : ℕ) (b : Bytes) (n : ℕ) → Cut is_blank b n → Continues at b [] (at + n) (drop n b)
-cut_continues at _ _ (cut s b all stop) = subst (Continues at (s ++ b) [] (at + length s)) (sym (drop-append_seam s b)) (gap_continues at s b all)
-
--- from a place to the end of the gap there
-pub past_gap : (bytes : Bytes) (at to : ℕ) → to ≡ at + prefix_len is_blank (drop at bytes) → Continues at (drop at bytes) [] to (drop to bytes)
-past_gap bytes at to e =
-    let n : ℕ = prefix_len is_blank (drop at bytes) in
-    let h : Continues at (drop at bytes) [] (at + n) (drop (at + n) bytes) =
-    subst (Continues at (drop at bytes) [] (at + n)) (drop-drop n at bytes) (cut_continues at (drop at bytes) n (run_cuts is_blank (drop at bytes))) in
-    subst (λ z. Continues at (drop at bytes) [] z (drop z bytes)) (sym e) h
-
--- ---- a token
-
-behind_token : (at : ℕ) (s b : Bytes) (k : Sort) (ts : List Token) → Spelling s k → IsLongest s b → Splits at (s ++ b) ts
-    → (us : List Token) × (ts ≡ token k at (length s) ∷ us) × Splits (at + length s) b us
-behind_token at s b k ts x long h = go (s ++ b) ts h refl
-  where
-    by_blank : (s : Bytes) (d : ℕ) (r : Bytes) (us : List Token) → Spelling s k → is_blank d ≡ true → d ∷ r ≡ s ++ b → ⊥
-    by_blank [] d r us x f e = not_empty (shape x) refl
-    by_blank (c ∷ cs) d r us x f e =
-        let same : c ≡ d = cc in
-        let never : true ≡ false = sym f ∙ ap is_blank (sym same) ∙ no_blank (shape x) c cs refl in cc
-
-    by_end : (s : Bytes) → Spelling s k → [] ≡ s ++ b → ⊥
-    by_end [] x e = not_empty (shape x) refl
-    by_end (c ∷ cs) x e = cc
-
-    go : (w : Bytes) (us : List Token) → Splits at w us → w ≡ s ++ b → (vs : List Token) × (us ≡ token k at (length s) ∷ vs) × Splits (at + length s) b vs
-    go _ _ (nothing _) e = absurd (by_end s x e)
-    go _ _ (blank_then d {b = r} {ts = us} f h) e = absurd (by_blank s d r us x f e)
-    go _ _ (token_then {s = t} {b = r} {ts = us} {k = j} y short h) e =
-        let one = one_token t r s b j k y short x long e in (
-          us,
-          ap (λ z. token z at (length t) ∷ us) one.2 ∙ ap (λ z. token k at (length z) ∷ us) one.0,
-          subst (λ z. Splits (at + length z) b us) one.0 (subst (λ z. Splits (at + length t) z us) one.1 h),
-        )
-
-token_continues : (at : ℕ) (b : Bytes) (k : Sort) (n : ℕ) → BeginsWith b k n → Continues at b (token k at n ∷ []) (at + n) (drop n b)
-token_continues at _ k _ (begins s b x long) =
-    subst (Continues at (s ++ b) (token k at (length s) ∷ []) (at + length s)) (sym (drop-append_seam s b))
-    (record { splits = λ ts h. token_then x long h; only = λ ts h. behind_token at s b k ts x long h })
-
-pub past_token : (bytes : Bytes) (at : ℕ) (t : Token) → IsTokenAt bytes at t → Continues at (drop at bytes) (t ∷ []) t.span.end (drop t.span.end bytes)
-past_token bytes at t h =
-    let k : Sort = t.sort in
-    let c : Continues at (drop at bytes) (token k at h.size ∷ []) (at + h.size) (drop (at + h.size) bytes) =
-    subst (Continues at (drop at bytes) (token k at h.size ∷ []) (at + h.size)) (drop-drop h.size at bytes) (token_continues at (drop at bytes) k h.size h.begins) in
-    let last : t.span.end ≡ at + h.size = ap (λ z. z.span.end) h.is in
-    subst (λ z. Continues at (drop at bytes) (z ∷ []) t.span.end (drop t.span.end bytes)) (sym h.is)
-    (subst (λ z. Continues at (drop at bytes) (token k at h.size ∷ []) z (drop z bytes)) (sym last) c)
-
--- ---- the end, and a place where there is no token
-
-split_at_end : (at : ℕ) (ts : List Token) → Splits at [] ts → ts ≡ []
-split_at_end at ts h = go [] ts h refl
-  where
-    by_token : (s r : Bytes) (k : Sort) (us : List Token) → Spelling s k → s ++ r ≡ [] → us ≡ []
-    by_token [] r k us x e = absurd (not_empty (shape x) refl)
-    by_token (c ∷ cs) r k us x e = cc
-
-    go : (w : Bytes) (us : List Token) → Splits at w us → w ≡ [] → us ≡ []
-    go _ _ (nothing _) e = refl
-    go _ _ (blank_then d f h) e = cc
-    go _ _ (token_then {s = s} {b = r} {ts = us} {k = k} x long h) e = by_token s r k (token k at (length s) ∷ us) x e
-
--- A text splits in one way.
-pub splits_once : {at : ℕ} {b : Bytes} {ts : List Token} → Splits at b ts → (us : List Token) → Splits at b us → us ≡ ts
-splits_once (nothing at) us h = split_at_end at us h
-splits_once {at} (blank_then c {b = b} f x) us h = splits_once x us (behind_blank at c b us f h)
-splits_once {at} (token_then {s = s} {b = b} {ts = ts} {k = k} x long y) us h =
-    let p = behind_token at s b k us x long h in
-    p.1 ∙ ap (λ z. token k at (length s) ∷ z) (splits_once y p.0 p.2)
-
-pub whole : (bytes : Bytes) (found : List Token) (at : ℕ) → Continues 0 bytes found at (drop at bytes) → length bytes ≤ at
-    → Splits 0 bytes found × ((us : List Token) → Splits 0 bytes us → us ≡ found)
+pub whole : (bytes : Bytes) (found : List Token) (at : ℕ) → Continues (mark bytes) (drop (mark bytes) bytes) found at (drop at bytes) → length bytes ≤ at → Splits bytes found
 whole bytes found at h end =
     let none : drop at bytes ≡ [] = drop_all at bytes end in
-    let all : Splits 0 bytes found = subst (Splits 0 bytes) (append-nil found) (h.splits [] (subst (λ z. Splits at z []) (sym none) (nothing at))) in
-    (all, splits_once all)
+    subst (λ z. Begins bytes z []) (append-nil found) (h.reaches [] [] (subst (λ z. Reaches at z [] []) (sym none) (here at [])))
 
--- No blank and no token begins here, and it isn't the end.
-nothing_splits : (at : ℕ) (c : ℕ) (b : Bytes) (ts : List Token) → is_blank c ≡ false → NoToken (c ∷ b) → Splits at (c ∷ b) ts → ⊥
-nothing_splits at c b ts f none h = go (c ∷ b) ts h refl
+pub stuck : (bytes : Bytes) (found : List Token) (at : ℕ) → Continues (mark bytes) (drop (mark bytes) bytes) found at (drop at bytes) → NothingBegins (drop at bytes) → IsNoToken bytes at
+stuck bytes found at h none =
+    record { tokens = found; reached = subst (λ z. Begins bytes z (drop at bytes)) (append-nil found) (h.reaches [] (drop at bytes) (here at (drop at bytes))); nothing = none }
+
+-- ---- one splitting
+
+-- No gap and no token begins the bytes.
+pub record Halts (r : Bytes) : Type 0 where
+  pub no_gap : (s b : Bytes) → r ≡ s ++ b → IsGap s b → ⊥
+  pub no_token : (s b : Bytes) (k : Sort) → r ≡ s ++ b → IsToken s k b → ⊥
+
+gap_has_bytes : {s b : Bytes} → IsGap s b → s ≡ [] → ⊥
+gap_has_bytes (blank c b f) e = cc
+gap_has_bytes (line s b all ends) e = cc
+gap_has_bytes (block s b h) e = cc
+
+no_front : (s b : Bytes) → [] ≡ s ++ b → s ≡ []
+no_front [] b e = refl
+no_front (c ∷ s) b e = cc
+
+pub end_halts : Halts []
+end_halts = record { no_gap = λ s b e g. gap_has_bytes g (no_front s b e); no_token = λ s b k e t. not_empty t.spelling (no_front s b e) }
+
+pub nothing_halts : {r : Bytes} → NothingBegins r → Halts r
+nothing_halts n = record { no_gap = n.no_gap; no_token = n.no_token }
+
+pub reaches_once : {at : ℕ} {b r q : Bytes} {ts us : List Token} → Reaches at b ts r → Halts r → Reaches at b us q → Halts q → (us ≡ ts) × (q ≡ r)
+reaches_once (here at b) h x g = go x refl
   where
-    go : (w : Bytes) (us : List Token) → Splits at w us → w ≡ c ∷ b → ⊥
-    go _ _ (nothing _) e = cc
-    go _ _ (blank_then d g h) e = let same : d ≡ c = cc in let never : true ≡ false = sym g ∙ ap is_blank same ∙ f in cc
-    go _ _ (token_then {s = s} {b = r} {ts = us} {k = k} x long h) e = none s r k (sym e) x
+    go : {w q : Bytes} {us : List Token} → Reaches at w us q → w ≡ b → (us ≡ []) × (q ≡ b)
+    go (here _ _) e = (refl, e)
+    go (gap_then {s = s} {b = c} p y) e = absurd (h.no_gap s c (sym e) p)
+    go (token_then {s = s} {b = c} {k = k} p y) e = absurd (h.no_token s c k (sym e) p)
+reaches_once {at} {r = r} {q = q} {ts = ts} (gap_then {s = s} {b = b} p y) h x g = go x refl g (λ us q z f. reaches_once y h z f)
+  where
+    go : {w q : Bytes} {us : List Token} → Reaches at w us q → w ≡ s ++ b → Halts q
+        → ((us : List Token) (q : Bytes) → Reaches (at + length s) b us q → Halts q → (us ≡ ts) × (q ≡ r)) → (us ≡ ts) × (q ≡ r)
+    go (here _ _) e g again = absurd (g.no_gap s b e p)
+    go (gap_then {s = t} {b = c} {r = q} {ts = us} o z) e g again =
+        let one = one_gap t c s b o p e in
+        again us q (subst (λ n. Reaches (at + length n) b us q) one.0 (subst (λ n. Reaches (at + length t) n us q) one.1 z)) g
+    go (token_then {s = t} {b = c} {k = k} o z) e g again = absurd (not_both s b t c k p o (sym e))
+reaches_once {at} {r = r} {q = q} (token_then {s = s} {b = b} {ts = ts} {k = k} p y) h x g = go x refl g (λ us q z f. reaches_once y h z f)
+  where
+    go : {w q : Bytes} {us : List Token} → Reaches at w us q → w ≡ s ++ b → Halts q
+        → ((us : List Token) (q : Bytes) → Reaches (at + length s) b us q → Halts q → (us ≡ ts) × (q ≡ r)) → (us ≡ token k at (length s) ∷ ts) × (q ≡ r)
+    go (here _ _) e g again = absurd (g.no_token s b k e p)
+    go (gap_then {s = t} {b = c} o z) e g again = absurd (not_both t c s b k o p e)
+    go (token_then {s = t} {b = c} {r = q} {ts = us} {k = j} o z) e g again =
+        let one = one_token t c s b j k o p e in
+        let more = again us q (subst (λ n. Reaches (at + length n) b us q) one.0 (subst (λ n. Reaches (at + length t) n us q) one.1 z)) g in
+        (ap (λ n. token n at (length t) ∷ us) one.2 ∙ ap (λ n. token k at (length n) ∷ us) one.0 ∙ ap (λ n. token k at (length s) ∷ n) more.0, more.1)
 
-pub gap_ends : (bytes : Bytes) (at to : ℕ) → to ≡ at + prefix_len is_blank (drop at bytes) → to < length bytes → is_blank (get_or bytes to 0) ≡ false
-gap_ends bytes at to e within =
-    let n : ℕ = prefix_len is_blank (drop at bytes) in
-    let short : n < length (drop at bytes) = omega (arith, length-drop at bytes) in
-    ap (λ z. is_blank (get_or bytes z 0)) e ∙ ap is_blank (sym (get_or-drop at bytes n 0)) ∙ prefix_len_stops is_blank (drop at bytes) 0 short
+pub splits_once : (bytes : Bytes) (ts us : List Token) → Splits bytes ts → Splits bytes us → us ≡ ts
+splits_once bytes ts us x y = (reaches_once x end_halts y end_halts).0
 
-pub stuck : (bytes : Bytes) (found : List Token) (at : ℕ) → Continues 0 bytes found at (drop at bytes) → at < length bytes → is_blank (get_or bytes at 0) ≡ false
-    → NoToken (drop at bytes) → (us : List Token) → Splits 0 bytes us → ⊥
-stuck bytes found at h within f none us x =
-    let front : drop at bytes ≡ get_or bytes at 0 ∷ drop (at + 1) bytes = rw add-one (drop-cons bytes at 0 within) in
-    let p = h.only us x in
-    nothing_splits at (get_or bytes at 0) (drop (at + 1) bytes) p.0 f (subst NoToken front none) (subst (λ z. Splits at z p.0) front p.2)
+-- a text that splits has a token or a gap at each place that is reached
+pub splits_not_stuck : (bytes : Bytes) (ts : List Token) (at : ℕ) → Splits bytes ts → IsNoToken bytes at → ⊥
+splits_not_stuck bytes ts at x n = n.nothing.more (reaches_once x end_halts n.reached (nothing_halts n.nothing)).1
 
--- one more token, and the gap behind it
-pub one_more : (bytes : Bytes) (found : List Token) (at to : ℕ) (t : Token) → Continues 0 bytes found at (drop at bytes) → IsTokenAt bytes at t
-    → to ≡ t.span.end + prefix_len is_blank (drop t.span.end bytes) → Continues 0 bytes (found ++ t ∷ []) to (drop to bytes)
-one_more bytes found at to t h x e =
-    subst (λ z. Continues 0 bytes z to (drop to bytes)) (append-nil (found ++ t ∷ []))
-    (goes_on (goes_on h (past_token bytes at t x)) (past_gap bytes t.span.end to e))
+above : (a b : ℕ) → nat_le b a ≡ false → a < b
+above a b e = grind (arith, nat_tests)
 
-pub first_gap : (bytes : Bytes) (to : ℕ) → to ≡ 0 + prefix_len is_blank (drop 0 bytes) → Continues 0 bytes [] to (drop to bytes)
-first_gap bytes to e = past_gap bytes 0 to e
+pub less_or : (a b : ℕ) → (a < b) ⊎ (b ≤ a)
+less_or a b = go (nat_le b a) refl
+  where
+    go : (q : Bool) → nat_le b a ≡ q → (a < b) ⊎ (b ≤ a)
+    go true e = inr (leb-true b a e)
+    go false e = inl (above a b e)
+
+drop_some : (bytes : Bytes) (at : ℕ) → (drop at bytes ≡ [] → ⊥) → at < length bytes
+drop_some bytes at h = elim (less_or at (length bytes)) [ inl e ↦ e | inr e ↦ absurd (h (drop_all at bytes e)) ]
+
+pub stuck_within : (bytes : Bytes) (at : ℕ) → IsNoToken bytes at → at < length bytes
+stuck_within bytes at n = drop_some bytes at n.nothing.more
+
+pub stuck_once : (bytes : Bytes) (at to : ℕ) → IsNoToken bytes at → IsNoToken bytes to → at ≡ to
+stuck_once bytes at to x y =
+    let same : drop to bytes ≡ drop at bytes = (reaches_once x.reached (nothing_halts x.nothing) y.reached (nothing_halts y.nothing)).1 in
+    let sizes : length bytes - to ≡ length bytes - at = sym (length-drop to bytes) ∙ ap length same ∙ length-drop at bytes in
+    let left = stuck_within bytes at x in
+    let right = stuck_within bytes to y in
+    omega arith

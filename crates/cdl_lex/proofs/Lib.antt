@@ -1,5 +1,12 @@
 pub mod Runs
-pub mod Shapes
-pub mod Heads
+pub mod Spelled
+pub mod Closed
+pub mod Numbers
+pub mod Pieces
+pub mod Gaps
 pub mod Continues
 pub mod Places
+pub mod AtTokens
+pub mod Great
+pub mod Nested
+pub mod First

@@ -1,11 +1,13 @@
 -- The sets of bytes that the code asks for.
 use Rattle.std.specs.Prelude.{ℕ, Bool}
 use Rattle.cdl_lex.specs.declared.class.Class.{Class}
-use Rattle.cdl_lex.specs.declared.class.Class.TheVariants.{Blank, Initial, Word, Symbol}
-use Rattle.cdl_lex.specs.Spellings.{is_blank, is_initial, is_word, is_symbol}
+use Rattle.cdl_lex.specs.declared.class.Class.TheVariants.{Blank, Initial, Word, Digit, Inner}
+use Rattle.cdl_lex.specs.Spellings.{is_blank, is_initial, is_word, is_digit}
+use Rattle.cdl_lex.specs.Splits.{is_inner}
 
 abbrev pub is_in : Class → ℕ → Bool
 is_in Blank = is_blank
 is_in Initial = is_initial
 is_in Word = is_word
-is_in Symbol = is_symbol
+is_in Digit = is_digit
+is_in Inner = is_inner

@@ -2,6 +2,11 @@ pub mod TokenList
 pub mod Keywords
 pub mod Spellings
 pub mod Splits
+pub mod Roles
+pub mod Limits
+pub mod Rules
+pub mod Verdict
 pub mod Classes
 pub mod Steps
-pub mod Verdict
+pub mod Found
+pub mod Texts

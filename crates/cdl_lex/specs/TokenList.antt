@@ -1,5 +1,5 @@
 -- The bytes of a file and the tokens in them.
-use Rattle.std.specs.Prelude.{ℕ, ◌<◌, ◌≤◌, List, All, length, slice_range}
+use Rattle.std.specs.Prelude.{ℕ, ◌<◌, ◌≤◌, List, [], ◌∷◌, All, length, slice_range}
 use Rattle.cdl_source.specs.declared.place.Token.{Token}
 
 -- what contracts see of `Tokens`
@@ -23,3 +23,12 @@ pub record LiesWithin (bytes : List ℕ) (t : Token) : Type 0 where
 
 abbrev pub LieWithin : List ℕ → List Token → Type 0
 LieWithin bytes ts = All (LiesWithin bytes) ts
+
+-- Each token has one byte or more, and begins where the one before it ends or behind that; the first one does not begin before
+-- the byte `from`.
+abbrev pub RiseFrom : ℕ → List Token → Type 0
+RiseFrom from [] = Unit {0}
+RiseFrom from (t ∷ ts) = (from ≤ t.span.start) × (t.span.start < t.span.end) × RiseFrom t.span.end ts
+
+abbrev pub Rise : List Token → Type 0
+Rise ts = RiseFrom 0 ts

@@ -1,12 +1,12 @@
-// Sets of bytes, and how far a text stays in one.
-ghost use Rattle.std.specs.Prelude.{◌≡◌, ◌+◌, ◌≤◌, length, drop};
+// Sets of bytes, and how far bytes stay in one.
+ghost use Rattle.std.specs.Prelude.{◌≡◌, ◌≤◌, length};
 ghost use Rattle.std.specs.List.{prefix_len};
 ghost use Rattle.cdl_lex.specs.Classes.{is_in};
 
 const FORM_FEED: u8 = 12;
 
 /// A set of bytes.
-#[derive(Clone, Copy, Debug, PartialEq, Eq)]
+#[derive(Clone, Copy)]
 pub(crate) enum Class {
     /// What stands between tokens.
     Blank,
@@ -14,8 +14,9 @@ pub(crate) enum Class {
     Initial,
     /// What an identifier goes on with.
     Word,
-    /// The symbols.
-    Symbol,
+    Digit,
+    /// What stands in a comment that ends with its line.
+    Inner,
 }
 
 impl Class {
@@ -26,21 +27,20 @@ impl Class {
             Class::Blank => matches!(byte, b' ' | b'\t' | b'\r' | b'\n' | FORM_FEED),
             Class::Initial => byte.is_ascii_alphabetic() || byte == b'_',
             Class::Word => byte.is_ascii_alphanumeric() || byte == b'_',
-            Class::Symbol => matches!(byte, b'(' | b')' | b';' | b',' | b'.'),
+            Class::Digit => byte.is_ascii_digit(),
+            Class::Inner => byte != b'\n',
         }
     }
 
-    // The first place, from this one on, whose byte is none of the class, or the end.
-    pub(crate) fn past(self, bytes: &[u8], at: usize) -> usize
-        requires { at ≤ length bytes.now }
-        ensures place { result ≡ at + prefix_len (is_in self) (drop at bytes.now) }
-        ensures after { at ≤ result }
+    // How many bytes from the front on are of the class.
+    pub(crate) fn prefix(self, bytes: &[u8]) -> usize
+        ensures size { result ≡ prefix_len (is_in self) bytes.now }
         ensures within { result ≤ length bytes.now }
     {
-        let mut end = at;
-        while end < bytes.len() && self.has(bytes[end]) {
-            end += 1;
+        let mut size = 0;
+        while size < bytes.len() && self.has(bytes[size]) {
+            size += 1;
         }
-        end
+        size
     }
 }

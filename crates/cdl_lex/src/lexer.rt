@@ -1,21 +1,24 @@
-// The tokens of a file, or the rule that it breaks.
-ghost use Rattle.std.specs.Prelude.{◌≡◌, ◌↔◌, IsTrue, IfOk, IfErr, List as Listed, All};
+// The tokens of a file, or the first rule that it breaks.
+ghost use Rattle.std.specs.Prelude.{◌≡◌, ◌<◌, ◌^◌, length, IfOk, IfErr, List as Listed};
 ghost use Rattle.cdl_source.specs.declared.place.Token.{Token as Item};
-ghost use Rattle.cdl_lex.specs.Splits.{IsInForm, FitsName};
-ghost use Rattle.cdl_lex.specs.Verdict.{IsGiven, IsRefusal};
+ghost use Rattle.cdl_lex.specs.Found.{IsFirst};
+ghost use Rattle.cdl_lex.specs.declared.lexer.LexFault.TheVariants.{Rule};
+ghost use Rattle.cdl_lex.specs.Rules.{IsTooLong, IsNotUtf8, BreaksNone};
+ghost use Rattle.cdl_lex.specs.Splits.{Splits};
+ghost use Rattle.cdl_lex.specs.TokenList.{LieWithin, Rise};
+ghost use Rattle.cdl_lex.specs.Texts.{AreSpelled, FitLimits};
+ghost use Rattle.cdl_lex.specs.Verdict.{IsRefusal};
 
-use crate::split::split;
+use crate::counts::too_many;
+use crate::depth::too_deep;
+use crate::literals::past_limits;
+use crate::split::{Splitting, split};
 use crate::tokens::Tokens;
-use cdl_source::{OutOfMemory, Place, Sort, Text, Token};
+use cdl_source::{OutOfMemory, Place, Text};
 use std::alloc::Global;
 
-// The most bytes of a text and of an identifier.
+// The most bytes of a text.
 const LONGEST_TEXT: usize = 524_288;
-
-const LONGEST_NAME: u32 = 64;
-
-// The rule that is broken by what is not built yet.
-const NOT_BUILT: u32 = 9;
 
 /// Why a text has no tokens.
 #[derive(Clone, Copy, Debug, PartialEq, Eq)]
@@ -36,50 +39,91 @@ impl From<OutOfMemory> for LexFault {
     }
 }
 
-/// The tokens of the bytes of a file. Each token is the longest that begins at its place.
+// Where the text is too long.
+fn too_long(bytes: &[u8]) -> Option<u32>
+    ensures { IsFirst (IsTooLong bytes.now) result }
+{
+    if bytes.len() > LONGEST_TEXT {
+        Some(LONGEST_TEXT as u32)
+    } else {
+        None
+    }
+}
+
+// Where the longest front of the text that is UTF-8 ends.
+fn not_utf8(bytes: &[u8]) -> Option<u32>
+    requires { length bytes.now < 2 ^ 32 }
+    ensures { IsFirst (IsNotUtf8 bytes.now) result }
+{
+    match std::str::from_utf8(bytes) {
+        Ok(_) => None,
+        Err(error) => Some(error.valid_up_to() as u32),
+    }
+}
+
+fn broken(rule: u32, file: u32, byte: u32) -> LexFault
+    ensures { result ≡ Rule rule (record { file = file; byte = byte }) }
+{
+    LexFault::Rule {
+        rule,
+        place: Place { file, byte },
+    }
+}
+
+/// The tokens of the bytes of a file: at most 524,288 bytes of UTF-8 that split into gaps and tokens, where each token is the
+/// longest that begins at its place.
 ///
-/// A text of another form than the one that is read so far breaks rule 9, at its first byte. `OutOfMemory` comes where
-/// the allocator refuses.
+/// `Rule` names the first rule that the text breaks, by its number, and the first byte at which it is broken:
+///
+/// | rule | broken where |
+/// |---|---|
+/// | 1 | there are more bytes than 524,288: at that byte |
+/// | 2 | the text is not UTF-8: at the end of its longest front that is UTF-8 |
+/// | 3 | neither a blank nor a comment nor a token begins: at that byte |
+/// | 4 | a whole number is above 2147483647, a Real is refused by `cdl_decimal::parse`, or an identifier has more than 64 bytes: at its first byte |
+/// | 5 | a token raises the depth of nesting to 65: at its first byte |
+/// | 6 | a token is the 65th `if` or the 1,025th counted operator since the last `;`: at its first byte |
+///
+/// `OutOfMemory` comes where the allocator refuses. The time is linear in the bytes, and a token takes 12 bytes of memory.
 pub fn lex(alloc: Global, file: u32, bytes: &[u8]) -> Result<Tokens, LexFault>
-    // The text is of the form, and splits into the tokens that are given.
+    // The text breaks no rule, and splits into the tokens that are given.
     ensures file { IfOk result (λ t. t.file ≡ file) }
     ensures bytes { IfOk result (λ t. t.bytes ≡ bytes.now) }
-    ensures found { IfOk result (λ t. IsInForm bytes.now t.items) }
+    ensures found { IfOk result (λ t. Splits bytes.now t.items) }
+    ensures unbroken { IfOk result (λ t. BreaksNone bytes.now) }
 
-    // A text of the form is refused for want of memory alone, and it has these tokens and no others.
-    ensures only { (ts : Listed Item) → IsInForm bytes.now ts → IsGiven ts result }
+    // The tokens lie in the text in order, their texts are spellings, and literals and identifiers are within their limits.
+    ensures within { IfOk result (λ t. LieWithin t.bytes t.items) }
+    ensures rise { IfOk result (λ t. Rise t.items) }
+    ensures spelled { IfOk result (λ t. AreSpelled t.bytes t.items) }
+    ensures fits { IfOk result (λ t. FitLimits t.bytes t.items) }
 
-    // A text that is refused is not of the form. The rule is 9, and the place the first byte of this file.
+    // It splits into no others.
+    ensures only { IfOk result (λ t. (ts : Listed Item) → Splits bytes.now ts → ts ≡ t.items) }
+
+    // The rule that is named is the first that is broken. So a text that breaks none is refused for want of memory alone.
     ensures refused { IfErr result (IsRefusal file bytes.now) }
 {
-    let refused = LexFault::Rule {
-        rule: NOT_BUILT,
-        place: Place { file, byte: 0 },
-    };
-    if bytes.len() > LONGEST_TEXT {
-        return Err(refused);
+    if let Some(at) = too_long(bytes) {
+        return Err(broken(1, file, at));
     }
-    let Some(items) = split(alloc, bytes)? else {
-        return Err(refused);
+    if let Some(at) = not_utf8(bytes) {
+        return Err(broken(2, file, at));
+    }
+    let items = match split(alloc, bytes)? {
+        Splitting::Whole(items) => items,
+        Splitting::Stuck(at) => return Err(broken(3, file, at as u32)),
     };
-    if !fit_names(items.items()) {
-        return Err(refused);
+    if let Some(at) = past_limits(bytes, items.items()) {
+        return Err(broken(4, file, at));
+    }
+    if let Some(at) = too_deep(bytes, items.items()) {
+        return Err(broken(5, file, at));
+    }
+    if let Some(at) = too_many(bytes, items.items()) {
+        return Err(broken(6, file, at));
     }
     let mut text = Text::new(alloc);
     text.push(bytes)?;
     Ok(Tokens::new(file, text, items))
-}
-
-fn fits_name(token: &Token) -> bool
-    ensures { IsTrue result ↔ FitsName token.now }
-{
-    token.sort != Sort::Identifier
-        || token.span.end.saturating_sub(token.span.start) <= LONGEST_NAME
-}
-
-// No identifier is too long.
-fn fit_names(tokens: &[Token]) -> bool
-    ensures { IsTrue result ↔ All FitsName tokens.now }
-{
-    tokens.iter().all(fits_name)
 }

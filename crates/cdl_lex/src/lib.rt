@@ -1,13 +1,19 @@
 //! The tokens of a text.
 //!
-//! A text of the form that is read so far has at most 524,288 bytes. It splits whole into gaps and tokens: identifiers of
-//! at most 64 bytes, the keywords of the language, and the symbols `( ) ; , .`. Gaps are spaces, tabs, carriage returns,
-//! line feeds and form feeds. Each token is the longest that begins at its place.
+//! A text has at most 524,288 bytes of UTF-8. It splits whole into gaps and tokens: identifiers, the keywords of the language,
+//! numbers, strings and symbols. Gaps are blanks and comments. Each token is the longest that begins at its place. Literals,
+//! identifiers, nesting and the operators of an expression have limits.
 #![tactic(auto)]
 
 mod class;
+mod counts;
+mod depth;
 mod keywords;
 mod lexer;
+mod literals;
+mod piece;
+mod role;
+mod sizes;
 mod split;
 mod tokens;
 

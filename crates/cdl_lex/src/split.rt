@@ -1,81 +1,65 @@
 // A text split into gaps and tokens.
-ghost use Rattle.std.specs.Prelude.{◌≡◌, ◌+◌, ◌^◌, ◌<◌, ◌≤◌, true, length, drop, slice_index, IfOk, IfSome, IfNone};
-ghost use Rattle.cdl_lex.specs.Spellings.{is_initial};
-ghost use Rattle.cdl_lex.specs.Steps as steps;
-ghost use Rattle.cdl_lex.specs.Steps.{IsTokenAt, NoToken, IsSplit};
+ghost use Rattle.std.specs.Prelude.{◌≡◌, ◌+◌, ◌++◌, ◌^◌, ◌<◌, ◌≤◌, length, IfOk, OnOk};
+ghost use Rattle.cdl_lex.specs.Splits as spec;
+ghost use Rattle.cdl_lex.specs.Steps.{IsSplit, listed};
 
-use crate::class::Class;
-use crate::keywords::is_keyword;
-use cdl_source::{List, OutOfMemory, Sort, Span, Token};
+use crate::piece::{Piece, piece_at};
+use cdl_source::{List, OutOfMemory, Span, Token};
 use std::alloc::Global;
 
-fn token(sort: Sort, start: usize, end: usize) -> Token
-    requires order { start ≤ end }
-    requires fits { end < 2 ^ 32 }
-    ensures { result ≡ record { sort = sort; span = record { start = start; end = end } } }
-{
-    let span = Span {
-        start: start as u32,
-        end: end as u32,
-    };
-    Token { sort, span }
+/// How far a text splits.
+#[derive(Drop)]
+pub(crate) enum Splitting {
+    /// To its end, into these tokens.
+    Whole(List<Token>),
+    /// To this byte, where nothing begins.
+    Stuck(usize),
 }
 
-fn word_sort(word: &[u8]) -> Sort
-    ensures { result ≡ steps.word_sort word.now }
+const MARK: [u8; 3] = [0xef, 0xbb, 0xbf];
+
+// The size of the byte order mark, if the text begins with one.
+fn mark_size(bytes: &[u8]) -> usize
+    ensures size { result ≡ spec.mark bytes.now }
+    ensures within { result ≤ length bytes.now }
 {
-    if is_keyword(word) {
-        Sort::Keyword
+    if bytes.starts_with(&MARK) {
+        MARK.len()
     } else {
-        Sort::Identifier
+        0
     }
 }
 
-// The identifier or keyword that begins here.
-fn word_at(bytes: &[u8], at: usize) -> Token
-    requires initial { is_initial (slice_index bytes.now at) ≡ true }
-    requires within { at < length bytes.now }
-    requires fits { length bytes.now < 2 ^ 32 }
-    ensures token { IsTokenAt bytes.now at result }
-    ensures after { at < result.span.end }
-    ensures within { result.span.end ≤ length bytes.now }
+// Adds the token, if the piece is one.
+fn keep(found: &mut List<Token>, at: usize, piece: Piece) -> Result<(), OutOfMemory>
+    requires fits { at + piece.size < 2 ^ 32 }
+    ensures ok { OnOk result (found.new ≡ found.old ++ listed at piece.sort piece.size) }
 {
-    let end = Class::Word.past(bytes, at + 1);
-    token(word_sort(&bytes[at..end]), at, end)
-}
-
-// The token that begins here, if one does.
-fn token_at(bytes: &[u8], at: usize) -> Option<Token>
-    requires within { at < length bytes.now }
-    requires fits { length bytes.now < 2 ^ 32 }
-    ensures token { IfSome result (IsTokenAt bytes.now at) }
-    ensures none { IfNone result (NoToken (drop at bytes.now)) }
-    ensures after { IfSome result (λ t. at < t.span.end) }
-    ensures within { IfSome result (λ t. t.span.end ≤ length bytes.now) }
-{
-    let first = bytes[at];
-    if Class::Initial.has(first) {
-        Some(word_at(bytes, at))
-    } else if Class::Symbol.has(first) {
-        Some(token(Sort::Symbol, at, at + 1))
-    } else {
-        None
+    match piece.sort {
+        Some(sort) => {
+            let span = Span {
+                start: at as u32,
+                end: (at + piece.size) as u32,
+            };
+            found.push(Token { sort, span })
+        }
+        None => Ok(()),
     }
 }
 
-// The tokens of the text, or None where it doesn't split into gaps and tokens.
-pub(crate) fn split(alloc: Global, bytes: &[u8]) -> Result<Option<List<Token>>, OutOfMemory>
+// The tokens of the text, or the byte at which nothing begins.
+pub(crate) fn split(alloc: Global, bytes: &[u8]) -> Result<Splitting, OutOfMemory>
     requires { length bytes.now < 2 ^ 32 }
     ensures { IfOk result (IsSplit bytes.now) }
 {
     let mut found = List::new(alloc);
-    let mut at = Class::Blank.past(bytes, 0);
+    let mut at = mark_size(bytes);
     while at < bytes.len() {
-        let Some(token) = token_at(bytes, at) else {
-            return Ok(None);
+        let Some(piece) = piece_at(&bytes[at..]) else {
+            return Ok(Splitting::Stuck(at));
         };
-        found.push(token)?;
-        at = Class::Blank.past(bytes, token.span.end as usize);
+        keep(&mut found, at, piece)?;
+        at += piece.size;
     }
-    Ok(Some(found))
+    Ok(Splitting::Whole(found))
 }

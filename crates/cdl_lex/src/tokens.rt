@@ -1,6 +1,7 @@
 // A text with its tokens.
-ghost use Rattle.std.specs.Prelude.{◌≡◌, ◌≤◌, ◌<◌, Some, length, slice_get};
-ghost use Rattle.cdl_lex.specs.TokenList.{LiesWithin, LieWithin, longest_text};
+ghost use Rattle.std.specs.Prelude.{◌≡◌, ◌≤◌, ◌<◌, Some, All, length, slice_get};
+ghost use Rattle.cdl_lex.specs.TokenList.{LiesWithin, LieWithin, Rise, longest_text};
+ghost use Rattle.cdl_lex.specs.Texts.{IsSpelled, AreSpelled, FitsLimits, FitLimits};
 
 use cdl_source::{List, Text, Token};
 use std::marker::Model;
@@ -17,19 +18,22 @@ pub struct Tokens {
 impl Model for Tokens {
     ghost use Rattle.std.specs.Prelude.{◌≤◌, length};
     ghost use Rattle.cdl_lex.specs.TokenList.{TokenList, LieWithin, longest_text};
+    ghost use Rattle.cdl_lex.specs.Texts.{AreSpelled, FitLimits};
 
     ghost Value = { TokenList };
 
     ghost view = { λ t. record { file = t.file; bytes = t.bytes; items = t.items } };
 
-    ghost invariant = { λ t. (length t.bytes ≤ longest_text) × LieWithin t.bytes t.items };
+    ghost invariant = { λ t. (length t.bytes ≤ longest_text) × LieWithin t.bytes t.items × AreSpelled t.bytes t.items × FitLimits t.bytes t.items };
 }
 
 impl Tokens {
-    // The text is short enough, and the tokens lie in it.
+    // The text is short enough, and the tokens lie in it, are spelled as their sorts say, and keep their limits.
     pub(crate) fn new(file: u32, bytes: Text, items: List<Token>) -> Tokens
         requires limit { length bytes ≤ longest_text }
         requires within { LieWithin bytes items }
+        requires spelled { AreSpelled bytes items }
+        requires fits { FitLimits bytes items }
         ensures { result ≡ record { file = file; bytes = bytes; items = items } }
     {
         Tokens { file, bytes, items }
@@ -57,11 +61,14 @@ impl Tokens {
         self.bytes.bytes()
     }
 
-    /// The token of this number, counted from 0. It lies within the bytes.
+    /// The token of this number, counted from 0. It lies within the bytes, its text is a spelling of its sort, and a literal or an
+    /// identifier is within its limits.
     pub fn token(&self, i: usize) -> Token
         requires { i < length self.now.items }
         ensures token { slice_get self.now.items i ≡ Some result }
         ensures within { LiesWithin self.now.bytes result }
+        ensures spelled { IsSpelled self.now.bytes result }
+        ensures fits { FitsLimits self.now.bytes result }
     {
         self.items.items()[i]
     }

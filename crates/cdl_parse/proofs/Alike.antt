@@ -1,12 +1,8 @@
 -- Where a rule stops at a token, the tokens behind that one play no part, nor does how much is left of the bounds.
-use Rattle.std.proofs.Common.{◌≡◌, ℕ, suc, ◌+◌, ◌≤◌, ◌<◌, Bool, true, false, [], ◌∷◌, ◌++◌, length, Option, Some, None, Ok, Err, refl, sym, ap, ◌∙◌, subst, arith, if◌then◌else◌, append_assoc, length-append}
+use Rattle.std.proofs.Common.{◌≡◌, ℕ, suc, ◌+◌, ◌≤◌, ◌<◌, [], ◌∷◌, ◌++◌, length, Option, Some, None, Ok, Err, refl, sym, ap, ◌∙◌, subst, arith, append_assoc, length-append}
 use Rattle.std.proofs.lemmas.List.{append_cancel_right}
-use Rattle.cdl_parse.specs.declared.kind.Kind.{Kind}
-use Rattle.cdl_parse.specs.declared.kind.Kind.TheVariants as k
-use Rattle.cdl_parse.specs.declared.tree.Ident.{Ident}
-use Rattle.cdl_parse.specs.Words.{Terminal, Word, same_kind}
-use Rattle.cdl_parse.specs.Grammar.{the_ident}
-use Rattle.cdl_parse.specs.Reading.{Outcome, Parser, and_then, pure, kind, sees, after, expect, ident, made}
+use Rattle.cdl_tree.specs.Words.{Terminal, Word}
+use Rattle.cdl_parse.specs.Reading.{Outcome, Parser, and_then, pure, made}
 use Rattle.cdl_parse.proofs.Steps.{Shape, Meets, Reads, since_is, seam}
 
 -- the outcome that stops at j: with a value, or stuck
@@ -125,94 +121,9 @@ module _ {B : Type 0} {n m n' m' : ℕ} {Q : Word → Word → B → Type 0} {F 
   pub behind_not : {Z : Type 0} (u r : Word) (x : Terminal) (o : Option B) → length (x ∷ r) ≤ n → F (u ++ x ∷ r) r ≡ stops o (x ∷ r) → Z
   behind_not u r x o le e = absurd (not_here u r x o f (omega (arith, le, ln)) e)
 
-  pub eaten_alike : {G G' : Word → Parser B} (kd : Kind) → Alike n m G G' → Alike n m (λ s i. (if sees kd i then F s else G s) (after kd i)) (λ s i. (if sees kd i then F' s else G' s) (after kd i))
-  unfolding sees after
-  eaten_alike {G} {G'} kd g = record { alike = at }
-    where
-      at_once : (u r r' : Word) (x : Terminal) (o : Option B) → length (x ∷ r) ≤ n → 0 < m → (b : Bool)
-          → (if b then F (u ++ x ∷ r) else G (u ++ x ∷ r)) (if b then r else x ∷ r) ≡ stops o (x ∷ r) → (if b then F' (u ++ x ∷ r') else G' (u ++ x ∷ r')) (if b then r' else x ∷ r') ≡ stops o (x ∷ r')
-      at_once u r r' x o le lt true e = behind_not u r x o le e
-      at_once u r r' x o le lt false e = g.alike u [] r r' x o le lt e
-
-      later : (u w r r' : Word) (t x : Terminal) (o : Option B) → length (t ∷ (w ++ x ∷ r)) ≤ n → length (t ∷ w) < m → (b : Bool)
-          → (if b then F (u ++ t ∷ (w ++ x ∷ r)) else G (u ++ t ∷ (w ++ x ∷ r))) (if b then w ++ x ∷ r else t ∷ (w ++ x ∷ r)) ≡ stops o (x ∷ r)
-          → (if b then F' (u ++ t ∷ (w ++ x ∷ r')) else G' (u ++ t ∷ (w ++ x ∷ r'))) (if b then w ++ x ∷ r' else t ∷ (w ++ x ∷ r')) ≡ stops o (x ∷ r')
-      later u w r r' t x o le lt true e = behind_alike u w r r' t x o le lt e
-      later u w r r' t x o le lt false e = g.alike u (t ∷ w) r r' x o le lt e
-
-      at : (u w r r' : Word) (x : Terminal) (o : Option B) → length (w ++ x ∷ r) ≤ n → length w < m
-          → (if sees kd (w ++ x ∷ r) then F (u ++ (w ++ x ∷ r)) else G (u ++ (w ++ x ∷ r))) (after kd (w ++ x ∷ r)) ≡ stops o (x ∷ r)
-          → (if sees kd (w ++ x ∷ r') then F' (u ++ (w ++ x ∷ r')) else G' (u ++ (w ++ x ∷ r'))) (after kd (w ++ x ∷ r')) ≡ stops o (x ∷ r')
-      at u [] r r' x o le lt e = at_once u r r' x o le lt (same_kind x.kind kd) e
-      at u (t ∷ w) r r' x o le lt e = later u w r r' t x o le lt (same_kind t.kind kd) e
-
-pub expect_alike : {n m : ℕ} (kd : Kind) → Alike n m (λ s. expect kd) (λ s. expect kd)
-unfolding expect sees
-expect_alike {n} {m} kd = record { alike = at }
-  where
-    at_once : (r r' : Word) (x : Terminal) (o : Option (Unit {0})) (b : Bool) → (if b then Ok (tt, r) else Err (x ∷ r)) ≡ stops o (x ∷ r) → (if b then Ok (tt, r') else Err (x ∷ r')) ≡ stops o (x ∷ r')
-    at_once r r' x None true e = cc
-    at_once r r' x (Some v) true e = absurd (never_back [] r x (ap (λ z. z.1) (same_pair _ _ e)))
-    at_once r r' x o false e = refuse_at [] r r' x o e
-
-    later : (w r r' : Word) (t x : Terminal) (o : Option (Unit {0})) (b : Bool) → (if b then Ok (tt, w ++ x ∷ r) else Err (t ∷ (w ++ x ∷ r))) ≡ stops o (x ∷ r)
-        → (if b then Ok (tt, w ++ x ∷ r') else Err (t ∷ (w ++ x ∷ r'))) ≡ stops o (x ∷ r')
-    later w r r' t x o true e = pure_at tt w r r' x o e
-    later w r r' t x o false e = refuse_at (t ∷ w) r r' x o e
-
-    at : (u w r r' : Word) (x : Terminal) (o : Option (Unit {0})) → length (w ++ x ∷ r) ≤ n → length w < m → expect kd (w ++ x ∷ r) ≡ stops o (x ∷ r) → expect kd (w ++ x ∷ r') ≡ stops o (x ∷ r')
-    at u [] r r' x o le lt e = at_once r r' x o (same_kind x.kind kd) e
-    at u (t ∷ w) r r' x o le lt e = later w r r' t x o (same_kind t.kind kd) e
-
-pub ident_alike : {n m : ℕ} → Alike n m (λ s. ident) (λ s. ident)
-unfolding ident sees
-ident_alike {n} {m} = record { alike = at }
-  where
-    at_once : (r r' : Word) (x : Terminal) (o : Option Ident) (b : Bool) → (if b then Ok (the_ident x, r) else Err (x ∷ r)) ≡ stops o (x ∷ r) → (if b then Ok (the_ident x, r') else Err (x ∷ r')) ≡ stops o (x ∷ r')
-    at_once r r' x None true e = cc
-    at_once r r' x (Some v) true e = absurd (never_back [] r x (ap (λ z. z.1) (same_pair _ _ e)))
-    at_once r r' x o false e = refuse_at [] r r' x o e
-
-    later : (w r r' : Word) (t x : Terminal) (o : Option Ident) (b : Bool) → (if b then Ok (the_ident t, w ++ x ∷ r) else Err (t ∷ (w ++ x ∷ r))) ≡ stops o (x ∷ r)
-        → (if b then Ok (the_ident t, w ++ x ∷ r') else Err (t ∷ (w ++ x ∷ r'))) ≡ stops o (x ∷ r')
-    later w r r' t x o true e = pure_at (the_ident t) w r r' x o e
-    later w r r' t x o false e = refuse_at (t ∷ w) r r' x o e
-
-    at : (u w r r' : Word) (x : Terminal) (o : Option Ident) → length (w ++ x ∷ r) ≤ n → length w < m → ident (w ++ x ∷ r) ≡ stops o (x ∷ r) → ident (w ++ x ∷ r') ≡ stops o (x ∷ r')
-    at u [] r r' x o le lt e = at_once r r' x o (same_kind x.kind k.Identifier) e
-    at u (t ∷ w) r r' x o le lt e = later w r r' t x o (same_kind t.kind k.Identifier) e
-
--- one of two rules, by what the next token is
-pub looked_alike : {A : Type 0} {n m : ℕ} {F G F' G' : Word → Parser A} (kd : Kind) → Alike n m F F' → Alike n m G G'
-    → Alike n m (λ s i. (if sees kd i then F s else G s) i) (λ s i. (if sees kd i then F' s else G' s) i)
-unfolding sees
-looked_alike {A} {n} {m} {F} {G} {F'} {G'} kd f g = record { alike = at }
-  where
-    go : (u w r r' : Word) (x : Terminal) (o : Option A) → length (w ++ x ∷ r) ≤ n → length w < m → (b : Bool)
-        → (if b then F (u ++ (w ++ x ∷ r)) else G (u ++ (w ++ x ∷ r))) (w ++ x ∷ r) ≡ stops o (x ∷ r)
-        → (if b then F' (u ++ (w ++ x ∷ r')) else G' (u ++ (w ++ x ∷ r'))) (w ++ x ∷ r') ≡ stops o (x ∷ r')
-    go u w r r' x o le lt true e = f.alike u w r r' x o le lt e
-    go u w r r' x o le lt false e = g.alike u w r r' x o le lt e
-
-    at : (u w r r' : Word) (x : Terminal) (o : Option A) → length (w ++ x ∷ r) ≤ n → length w < m
-        → (if same_kind (kind (w ++ x ∷ r)) kd then F (u ++ (w ++ x ∷ r)) else G (u ++ (w ++ x ∷ r))) (w ++ x ∷ r) ≡ stops o (x ∷ r)
-        → (if same_kind (kind (w ++ x ∷ r')) kd then F' (u ++ (w ++ x ∷ r')) else G' (u ++ (w ++ x ∷ r'))) (w ++ x ∷ r') ≡ stops o (x ∷ r')
-    at u [] r r' x o le lt e = go u [] r r' x o le lt (same_kind x.kind kd) e
-    at u (t ∷ w) r r' x o le lt e = go u (t ∷ w) r r' x o le lt (same_kind t.kind kd) e
-
 -- where nothing is left of the bounds
 pub none_left : {A : Type 0} {m : ℕ} {P P' : Word → Parser A} → Alike 0 m P P'
 none_left = record { alike = λ u w r r' x o le lt e. let never : ⊥ = omega (arith, le, length-append w (x ∷ r)) in absurd never }
 
 pub none_right : {A : Type 0} {n : ℕ} {P P' : Word → Parser A} → Alike n 0 P P'
 none_right = record { alike = λ u w r r' x o le lt e. let never : ⊥ = omega (arith, lt) in absurd never }
-
--- one rule after another, where the first may read nothing, and where it reads something
-pub alike_then : {A B : Type 0} {n m : ℕ} {R : Word → Word → A → Type 0} {Q : A → Word → Word → B → Type 0} {P P' : Word → Parser A} {F F' : A → Word → Parser B}
-    → Reads n R P → ((a : A) → Reads n (Q a) (F a)) → Alike n m P P' → ((a : A) → Alike n m (F a) (F' a)) → Alike n m (λ s i. and_then (P s i) (λ a. F a s)) (λ s i. and_then (P' s i) (λ a. F' a s))
-alike_then {n = n} {m = m} p f g h = alike_turn {n = n} {m = m} {n' = n} {m' = m} (λ u w a x. (omega arith, omega arith)) p f g h
-
-pub alike_behind : {A B : Type 0} {n m : ℕ} {R : Word → Word → A → Type 0} {Q : A → Word → Word → B → Type 0} {P P' : Word → Parser A} {F F' : A → Word → Parser B}
-    → ((u w : Word) (a : A) → R u w a → 0 < length w) → Reads (suc n) R P → ((a : A) → Reads n (Q a) (F a)) → Alike (suc n) (suc m) P P' → ((a : A) → Alike n m (F a) (F' a))
-    → Alike (suc n) (suc m) (λ s i. and_then (P s i) (λ a. F a s)) (λ s i. and_then (P' s i) (λ a. F' a s))
-alike_behind {n = n} {m = m} some p f g h = alike_turn {n = suc n} {m = suc m} {n' = n} {m' = m} (λ u w a x. (omega (arith, some u w a x), omega (arith, some u w a x))) p f g h

@@ -1,16 +1,15 @@
 -- The tokens from a place on.
-use Rattle.std.proofs.Common.{◌≡◌, ℕ, zero, suc, ◌+◌, ◌-◌, ◌<◌, ◌≤◌, List, [], ◌∷◌, length, map, take, drop, Some, true, Ok, Err, if◌then◌else◌, refl, sym, ap, ◌∙◌, subst, arith, add-one, length-drop}
+use Rattle.std.proofs.Common.{◌≡◌, ℕ, zero, suc, ◌+◌, ◌-◌, ◌<◌, ◌≤◌, List, [], ◌∷◌, length, map, take, drop, Some, refl, sym, ap, ◌∙◌, subst, arith, add-one, length-drop}
 use Rattle.std.proofs.lemmas.List.{length-map}
 use Rattle.std.proofs.lemmas.Option.{slice_get-map}
 use Rattle.std.specs.List.{slice_get}
 use Rattle.std.specs.Option.{option_map}
 use Rattle.cdl_source.specs.declared.place.Token.{Token}
 use Rattle.cdl_lex.specs.TokenList.{TokenList}
-use Rattle.cdl_parse.specs.declared.kind.Kind.TheVariants as k
-use Rattle.cdl_parse.specs.Words.{Terminal, Word, ending, span_of, same_kind}
-use Rattle.cdl_parse.specs.Terminals.{terminal, terminals}
-use Rattle.cdl_parse.specs.Grammar.{the_ident}
-use Rattle.cdl_parse.specs.Reading.{kind, next, sees, first_ident, ident, since}
+use Rattle.cdl_tree.specs.Words.{Terminal, Word, ending, span_of}
+use Rattle.cdl_tree.specs.Terminals.{terminal}
+use Rattle.cdl_parse.specs.Reading.{kind, text, span, next, since}
+use Rattle.cdl_parse.specs.Verdict.{word_of as terminals}
 
 drop_next : (ts : Word) (i : ℕ) → drop (suc i) ts ≡ next (drop i ts)
 drop_next [] zero = refl
@@ -33,16 +32,11 @@ ahead_is w i t e = rw add-one (drop_map (terminal w.bytes) w.items t i e)
 pub kind_is : (w : TokenList) (i : ℕ) (t : Token) (ts : Word) → ts ≡ drop i (terminals w) → slice_get w.items i ≡ Some t → (terminal w.bytes t).kind ≡ kind ts
 kind_is w i t ts e f = ap kind (sym (e ∙ ahead_is w i t f))
 
-pub ident_is : (w : TokenList) (i : ℕ) (t : Token) (ts : Word) → ts ≡ drop i (terminals w) → slice_get w.items i ≡ Some t → sees k.Identifier ts ≡ true
-    → ident ts ≡ Ok (the_ident (terminal w.bytes t), next ts)
-unfolding ident
-ident_is w i t ts e f s =
-    ap (λ z. if z then Ok (first_ident ts, next ts) else Err ts) s ∙ ap (λ z. Ok (first_ident z, next ts)) (e ∙ ahead_is w i t f)
+pub text_is : (w : TokenList) (i : ℕ) (t : Token) (ts : Word) → ts ≡ drop i (terminals w) → slice_get w.items i ≡ Some t → (terminal w.bytes t).text ≡ text ts
+text_is w i t ts e f = ap text (sym (e ∙ ahead_is w i t f))
 
-pub within_is : (w : TokenList) (i : ℕ) (ts : Word) → ts ≡ drop i (terminals w) → sees k.Identifier ts ≡ true → i < length w.items
-unfolding sees same_kind
-within_is w i [] e s = cc
-within_is w i (t ∷ ts) e s = omega (arith, ap length e, length-drop i (terminals w), length-map w.items (terminal w.bytes))
+pub spans_is : (w : TokenList) (i : ℕ) (t : Token) (ts : Word) → ts ≡ drop i (terminals w) → slice_get w.items i ≡ Some t → t.span ≡ span ts
+spans_is w i t ts e f = ap span (sym (e ∙ ahead_is w i t f))
 
 -- ---- spans
 

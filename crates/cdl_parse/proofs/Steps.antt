@@ -1,15 +1,12 @@
 -- What an outcome says of a relation between words and values, step by step.
 -- A relation R u w a has a first word u: what was read since the production's start.
-use Rattle.std.proofs.Common.{◌≡◌, ℕ, suc, ◌-◌, ◌≤◌, ◌<◌, Bool, true, false, [], ◌∷◌, ◌++◌, length, take, Ok, Err, refl, sym, ap, ◌∙◌, subst, arith, if◌then◌else◌, append_assoc, length-append, add-sub_cancel}
+use Rattle.std.proofs.Common.{◌≡◌, ℕ, ◌-◌, ◌≤◌, true, [], ◌∷◌, ◌++◌, length, take, Ok, Err, refl, sym, ap, ◌∙◌, subst, arith, append_assoc, length-append, add-sub_cancel}
 use Rattle.std.proofs.Math.Seq.{take-append_seam}
 use denote.Enum.Bare.{same_true}
-use Rattle.cdl_parse.specs.contracts.kind.Kind.{the_type}
-use Rattle.cdl_parse.specs.declared.kind.Kind.{Kind}
-use Rattle.cdl_parse.specs.declared.kind.Kind.TheVariants as k
-use Rattle.cdl_parse.specs.declared.tree.Ident.{Ident}
-use Rattle.cdl_parse.specs.Words.{Terminal, Word, same_kind}
-use Rattle.cdl_parse.specs.Grammar.{the_ident}
-use Rattle.cdl_parse.specs.Reading.{Outcome, Parser, and_then, pure, sees, after, expect, first_ident, ident, since, made}
+use Rattle.cdl_tree.specs.contracts.kind.Kind.{the_type}
+use Rattle.cdl_tree.specs.declared.kind.Kind.{Kind}
+use Rattle.cdl_tree.specs.Words.{Terminal, Word, same_kind}
+use Rattle.cdl_parse.specs.Reading.{Outcome, Parser, and_then, pure, since, made}
 
 -- read: a word of R. Stuck: the front of a word of R.
 abbrev pub Shape : {A : Type 0} → (Word → Word → A → Type 0) → Word → Word → Outcome A → Type 0
@@ -41,15 +38,8 @@ pub data Is {A : Type 0} (a : A) (u : Word) : Word → A → Type 0 where
 pub data Made {A : Type 0} (f : Word → A) (u : Word) : Word → A → Type 0 where
   is_made : {a : A} → a ≡ f u → Made f u [] a
 
-pub data One (kd : Kind) (u : Word) : Word → Unit {0} → Type 0 where
-  a_token : (t : Terminal) → t.kind ≡ kd → One kd u (t ∷ []) tt
-
 pub data First {B : Type 0} (K : Terminal → Type 0) (Q : Terminal → Word → Word → B → Type 0) (u : Word) : Word → B → Type 0 where
   first : (t : Terminal) {y : Word} {b : B} → K t → Q t (u ++ t ∷ []) y b → First K Q u (t ∷ y) b
-
-pub data Chosen {B : Type 0} (kd : Kind) (Q S : Word → Word → B → Type 0) (u : Word) : Word → B → Type 0 where
-  found : (t : Terminal) {y : Word} {b : B} → t.kind ≡ kd → Q (u ++ t ∷ []) y b → Chosen kd Q S u (t ∷ y) b
-  missing : {y : Word} {b : B} → S u y b → Chosen kd Q S u y b
 
 -- ---- weaker, and one after another
 
@@ -88,9 +78,6 @@ in_turn {A} {B} {n} {m} {R} {Q} {P} {F} l p f e = record { reads = λ u i le. go
 
 pub leaves_all : {A : Type 0} {n : ℕ} {R : Word → Word → A → Type 0} → Leaves n n R
 leaves_all = record { leaves = λ u x j a h le. omega (arith, le, length-append x j) }
-
-pub leaves_less : {A : Type 0} {m : ℕ} {R : Word → Word → A → Type 0} → ((u x : Word) (a : A) → R u x a → 0 < length x) → Leaves (suc m) m R
-leaves_less f = record { leaves = λ u x j a h le. omega (arith, le, f u x a h, length-append x j) }
 
 -- where a production begins: what comes before it plays no part
 pub begun : {A : Type 0} {n : ℕ} {R : Word → Word → A → Type 0} {F : Word → Parser A} → Reads n R F → Reads n (λ u. R []) (λ s i. F i i)
@@ -136,80 +123,9 @@ pub is_kind : (a b : Kind) → same_kind a b ≡ true → a ≡ b
 unfolding same_kind
 is_kind a b e = same_true the_type tt a b e
 
-pub eaten : {B : Type 0} {n m : ℕ} {kd : Kind} {Q S : Word → Word → B → Type 0} {F G : Word → Parser B} → same_kind k.Nothing kd ≡ false → n ≤ suc m
-    → Reads m Q F → Reads n S G → Reads n (Chosen kd Q S) (λ s i. (if sees kd i then F s else G s) (after kd i))
-unfolding sees after
-eaten {B} {n} {m} {kd} {Q} {S} {F} {G} never few f g = record { reads = at }
-  where
-    turn : (u w : Word) (a : B) → First (λ z. z.kind ≡ kd) (λ _. Q) u w a → Chosen kd Q S u w a
-    turn u w a (first z h q) = found z h q
-
-    go : (u : Word) (t : Terminal) (ts : Word) → length (t ∷ ts) ≤ n → (b : Bool) → same_kind t.kind kd ≡ b
-        → Meets (Chosen kd Q S) u (t ∷ ts) ((if b then F (u ++ t ∷ ts) else G (u ++ t ∷ ts)) (if b then ts else t ∷ ts))
-    go u t ts le true e = weaker (turn u) (behind (λ _. Q) t (is_kind t.kind kd e) f (omega (arith, le)))
-    go u t ts le false e = weaker (λ w a h. missing h) (g.reads u (t ∷ ts) le)
-
-    at : (u i : Word) → length i ≤ n → Meets (Chosen kd Q S) u i ((if sees kd i then F (u ++ i) else G (u ++ i)) (after kd i))
-    at u [] le = subst (λ b. Meets (Chosen kd Q S) u [] ((if b then F (u ++ []) else G (u ++ [])) (if b then [] else []))) (sym never)
-        (weaker (λ w a h. missing h) (g.reads u [] le))
-    at u (t ∷ ts) le = go u t ts le (same_kind t.kind kd) refl
-
-abbrev pub token_of : Kind → Terminal
-token_of kd = record { kind = kd; text = []; span = record { start = 0; end = 0 } }
-
-pub expect_reads : {n : ℕ} (kd : Kind) → same_kind k.Nothing kd ≡ false → Reads n (One kd) (λ s. expect kd)
-unfolding expect sees
-expect_reads {n} kd never = record { reads = at }
-  where
-    go : (u : Word) (t : Terminal) (ts : Word) (b : Bool) → same_kind t.kind kd ≡ b → Meets (One kd) u (t ∷ ts) (if b then Ok (tt, ts) else Err (t ∷ ts))
-    go u t ts true e = record { shape = (t ∷ [], refl, a_token t (is_kind t.kind kd e)) }
-    go u t ts false e = record { shape = ([], token_of kd ∷ [], tt, refl, a_token (token_of kd) refl) }
-
-    at : (u i : Word) → length i ≤ n → Meets (One kd) u i (expect kd i)
-    at u [] le = subst (λ b. Meets (One kd) u [] (if b then Ok (tt, []) else Err [])) (sym never) (record { shape = ([], token_of kd ∷ [], tt, refl, a_token (token_of kd) refl) })
-    at u (t ∷ ts) le = go u t ts (same_kind t.kind kd) refl
-
-pub expect_ends : (kd : Kind) → Ends (One kd)
-expect_ends kd = record { ends = λ u. (token_of kd ∷ [], tt, a_token (token_of kd) refl) }
-
-pub then_ends : {A B : Type 0} {R : Word → Word → A → Type 0} {Q : A → Word → Word → B → Type 0} → Ends R → ((a : A) → Ends (Q a)) → Ends (Then R Q)
-then_ends r q = record { ends = λ u. let x = r.ends u in let y = (q x.1).ends (u ++ x.0) in (x.0 ++ y.0, y.1, both x.2 y.2) }
-
 -- a rule that refuses whatever comes, where some word of R is known
 pub stuck_here : {A : Type 0} {R : Word → Word → A → Type 0} {u i : Word} (v : Word) (a : A) → R u v a → Meets R u i (Err i)
 stuck_here v a h = record { shape = ([], v, a, refl, h) }
 
--- one of two rules, by what the next token is
-pub looked : {B : Type 0} {n : ℕ} {R : Word → Word → B → Type 0} {F G : Word → Parser B} (kd : Kind) → Reads n R F → Reads n R G → Reads n R (λ s i. (if sees kd i then F s else G s) i)
-looked {B} {n} {R} {F} {G} kd f g = record { reads = λ u i le. go u i le (sees kd i) }
-  where
-    go : (u i : Word) → length i ≤ n → (b : Bool) → Meets R u i ((if b then F (u ++ i) else G (u ++ i)) i)
-    go u i le true = f.reads u i le
-    go u i le false = g.reads u i le
-
--- ---- identifiers
-
-pub data OneIdent (u : Word) : Word → Ident → Type 0 where
-  an_ident : (t : Terminal) → t.kind ≡ k.Identifier → OneIdent u (t ∷ []) (the_ident t)
-
-no_ident : same_kind k.Nothing k.Identifier ≡ false
-unfolding same_kind
-no_ident = refl
-
-pub ident_reads : {n : ℕ} → Reads n OneIdent (λ s. ident)
-unfolding ident sees
-ident_reads {n} = record { reads = at }
-  where
-    stuck : (u i : Word) → Meets OneIdent u i (Err i)
-    stuck u i = stuck_here (token_of k.Identifier ∷ []) (the_ident (token_of k.Identifier)) (an_ident (token_of k.Identifier) refl)
-
-    go : (u : Word) (t : Terminal) (ts : Word) (b : Bool) → same_kind t.kind k.Identifier ≡ b → Meets OneIdent u (t ∷ ts) (if b then Ok (the_ident t, ts) else Err (t ∷ ts))
-    go u t ts true e = record { shape = (t ∷ [], refl, an_ident t (is_kind t.kind k.Identifier e)) }
-    go u t ts false e = stuck u (t ∷ ts)
-
-    at : (u i : Word) → length i ≤ n → Meets OneIdent u i (ident i)
-    at u [] le = subst (λ b. Meets OneIdent u [] (if b then Ok (first_ident [], []) else Err [])) (sym no_ident) (stuck u [])
-    at u (t ∷ ts) le = go u t ts (same_kind t.kind k.Identifier) refl
-
-pub ident_ends : Ends OneIdent
-ident_ends = record { ends = λ u. (token_of k.Identifier ∷ [], the_ident (token_of k.Identifier), an_ident (token_of k.Identifier) refl) }
+pub then_ends : {A B : Type 0} {R : Word → Word → A → Type 0} {Q : A → Word → Word → B → Type 0} → Ends R → ((a : A) → Ends (Q a)) → Ends (Then R Q)
+then_ends r q = record { ends = λ u. let x = r.ends u in let y = (q x.1).ends (u ++ x.0) in (x.0 ++ y.0, y.1, both x.2 y.2) }

@@ -1,9 +1,7 @@
-pub mod Words
-pub mod Trees
-pub mod Terminals
-pub mod Grammar
 pub mod Reading
-pub mod Rules
+pub mod Expressions
+pub mod Declarations
+pub mod Classes
 pub mod Ahead
 pub mod Gives
 pub mod Verdict

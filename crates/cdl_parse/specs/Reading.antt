@@ -1,10 +1,12 @@
 -- The steps that every rule of the parser is made of. A fault is the rest of the tokens from its place on.
-use Rattle.std.specs.Prelude.{◌-◌, Bool, if◌then◌else◌, [], ◌∷◌, length, take, Result, Ok, Err}
-use Rattle.cdl_parse.specs.declared.kind.Kind.{Kind}
-use Rattle.cdl_parse.specs.declared.kind.Kind.TheVariants as k
-use Rattle.cdl_parse.specs.declared.tree.Ident.{Ident}
-use Rattle.cdl_parse.specs.Words.{Word, same_kind}
-use Rattle.cdl_parse.specs.Grammar.{the_ident}
+use Rattle.std.specs.Prelude.{ℕ, ◌-◌, ℤ, Bool, if◌then◌else◌, List, [], ◌∷◌, ◌++◌, length, take, Option, Some, None, Result, Ok, Err, zero, suc}
+use Rattle.cdl_source.specs.declared.place.Span.{Span}
+use Rattle.cdl_decimal.specs.declared.numeral.DecimalError.{DecimalError}
+use Rattle.cdl_decimal.specs.Split.{parse_of}
+use Rattle.cdl_tree.specs.declared.kind.Kind.{Kind}
+use Rattle.cdl_tree.specs.declared.kind.Kind.TheVariants as k
+use Rattle.cdl_tree.specs.declared.name.Ident.{Ident}
+use Rattle.cdl_tree.specs.Words.{Word, same_kind}
 
 abbrev pub Outcome : Type 0 → Type 0
 Outcome A = Result (A × Word) Word
@@ -27,17 +29,35 @@ p >> q = p >>= (λ _. q)
 abbrev pub pure : {A : Type 0} → A → Parser A
 pure a = λ i. Ok (a, i)
 
--- the next token's kind, and the tokens behind it
+abbrev pub refuse : {A : Type 0} → Parser A
+refuse = λ i. Err i
+
+-- the next token's kind, text and span, and the tokens behind it
 abbrev pub kind : Word → Kind
 kind [] = k.Nothing
 kind (t ∷ ts) = t.kind
+
+abbrev pub text : Word → List ℕ
+text [] = []
+text (t ∷ ts) = t.text
+
+abbrev pub span : Word → Span
+span [] = record { start = 0; end = 0 }
+span (t ∷ ts) = t.span
 
 abbrev pub next : Word → Word
 next [] = []
 next (t ∷ ts) = ts
 
+abbrev pub peek : Parser Kind
+peek = λ i. Ok (kind i, i)
+
 abbrev pub here : Parser Word
 here = λ i. Ok (i, i)
+
+-- the next token, whatever it is
+abbrev pub skip : Parser (Unit {0})
+skip = λ i. Ok (tt, next i)
 
 unfoldable pub sees : Kind → Word → Bool
 sees k i = same_kind (kind i) k
@@ -62,12 +82,24 @@ expect_end [] = Ok (tt, [])
 expect_end (t ∷ ts) = Err (t ∷ ts)
 
 -- the next token as an identifier
-abbrev pub first_ident : Word → Ident
-first_ident [] = record { text = []; span = record { start = 0; end = 0 } }
-first_ident (t ∷ ts) = the_ident t
-
 unfoldable pub ident : Parser Ident
-ident = λ i. if sees k.Identifier i then Ok (first_ident i, next i) else Err i
+ident = λ i. if sees k.Identifier i then Ok (record { text = text i; span = span i }, next i) else Err i
+
+abbrev pub literal_by : {A : Type 0} → Option A → Parser A
+literal_by (Some a) = λ i. Ok (a, next i)
+literal_by None = refuse
+
+-- the value of the next token, where it is of this kind and its text has one
+unfoldable pub literal : {A : Type 0} → Kind → (List ℕ → Option A) → Parser A
+literal kind value = λ i. if sees kind i then literal_by (value (text i)) i else Err i
+
+abbrev pub value_of : Result ℤ DecimalError → Option ℤ
+value_of (Ok q) = Some q
+value_of (Err e) = None
+
+-- the count of millionths of a number's text
+abbrev pub real_of : List ℕ → Option ℤ
+real_of text = value_of (parse_of text)
 
 -- what was read since start, where i is left
 abbrev pub since : Word → Word → Word
@@ -76,3 +108,16 @@ since start i = take (length start - length i) start
 -- a value that is made of the word read since start
 unfoldable pub made : {A : Type 0} → (Word → A) → Word → Parser A
 made f start = λ i. Ok (f (since start i), i)
+
+-- item { separator item }, behind the items that are found: at most so many turns
+module _ {A : Type 0} (separator : Kind) (item : Parser A) where
+  unfoldable pub list_from : ℕ → List A → Parser (List A)
+  list_from zero found = pure found
+  list_from (suc turns) found = do
+    more ← eat separator
+    if more then (do x ← item; list_from turns (found ++ x ∷ [])) else pure found
+
+  unfoldable pub list : ℕ → List A → Parser (List A)
+  list turns found = do
+    first ← item
+    list_from turns (found ++ first ∷ [])

@@ -1,17 +1,19 @@
 // A place among the tokens, from which the rules read on.
-ghost use Rattle.std.specs.Prelude.{◌≡◌, length};
+ghost use Rattle.std.specs.Prelude.{◌≡◌, length, Option};
 ghost use Rattle.cdl_lex.specs.TokenList.{LiesWithin};
-ghost use Rattle.cdl_lex.specs.TokenList as list;
+ghost use Rattle.cdl_tree.specs.Terminals as terminals;
+ghost use Rattle.cdl_tree.specs.Words as words;
+ghost use Rattle.cdl_tree.specs.Trees as trees;
+ghost use Rattle.cdl_tree.specs.Literals as literals;
 ghost use Rattle.cdl_parse.specs.Gives.{Gives};
 ghost use Rattle.cdl_parse.specs.Reading as spec;
-ghost use Rattle.cdl_parse.specs.Terminals as terminals;
-ghost use Rattle.cdl_parse.specs.Words as words;
+ghost use Rattle.cdl_parse.specs.Verdict.{word_of};
 
-use crate::kind::{Kind, kind_of};
-use crate::tree::Ident;
+use cdl_decimal::Real;
 use cdl_lex::Tokens;
 use cdl_source::{OutOfMemory, Span, Text, Token};
-use std::alloc::Global;
+use cdl_tree::{Expr, Ident, Kind, Node, integer, kind_of, string};
+use std::alloc::{AllocError, Global};
 use std::marker::Model;
 
 /// Why a rule stopped.
@@ -33,6 +35,17 @@ impl From<OutOfMemory> for Fault {
     }
 }
 
+impl From<AllocError> for Fault {
+    ghost use Rattle.std.specs.Prelude.{◌≡◌};
+    ghost use Rattle.cdl_parse.specs.declared.cursor.Fault.TheVariants.{OutOfMemory};
+
+    ghost from_gives = { λ _ e. e ≡ OutOfMemory };
+
+    fn from(_: AllocError) -> Fault {
+        Fault::OutOfMemory
+    }
+}
+
 /// A place among tokens, which contracts see as the tokens from there on.
 #[derive(Drop)]
 pub(crate) struct Cursor<'a> {
@@ -41,7 +54,7 @@ pub(crate) struct Cursor<'a> {
 }
 
 impl<'a> Model for Cursor<'a> {
-    ghost use Rattle.cdl_parse.specs.Words.{Word};
+    ghost use Rattle.cdl_tree.specs.Words.{Word};
 
     ghost Value = { Word };
 
@@ -55,7 +68,7 @@ impl<'a> Model for Cursor<'a> {
 // A token's text.
 fn text_of(tokens: &Tokens, token: Token) -> &[u8]
     requires { LiesWithin tokens.now.bytes token }
-    ensures { result.now ≡ list.text_of tokens.now.bytes token }
+    ensures { result.now ≡ terminals.text_of tokens.now.bytes token }
 {
     &tokens.bytes()[token.span.start as usize..token.span.end as usize]
 }
@@ -63,7 +76,7 @@ fn text_of(tokens: &Tokens, token: Token) -> &[u8]
 impl<'a> Cursor<'a> {
     /// Before the first token.
     pub(crate) fn new(tokens: &'a Tokens) -> Cursor<'a>
-        ensures { result ≡ terminals.terminals tokens.now }
+        ensures { result ≡ word_of tokens.now }
     {
         Cursor { tokens, at: 0 }
     }
@@ -79,7 +92,27 @@ impl<'a> Cursor<'a> {
         kind_of(token.sort, text_of(self.tokens, token))
     }
 
-    #[tactic(auto, unfolding(crate::specs::Reading::sees, crate::specs::Words::same_kind))]
+    /// The text of the next token, nothing behind the last one.
+    fn text(&self) -> &[u8]
+        ensures { result.now ≡ spec.text self.now }
+    {
+        if self.at == self.tokens.len() {
+            return &[];
+        }
+        text_of(self.tokens, self.tokens.token(self.at))
+    }
+
+    /// The span of the next token.
+    fn span(&self) -> Span
+        ensures { result ≡ spec.span self.now }
+    {
+        if self.at == self.tokens.len() {
+            return Span { start: 0, end: 0 };
+        }
+        self.tokens.token(self.at).span
+    }
+
+    #[tactic(auto, unfolding(crate::specs::Reading::sees, cdl_tree::specs::Words::same_kind))]
     pub(crate) fn sees(&self, kind: Kind) -> bool
         ensures { result ≡ spec.sees kind self.now }
     {
@@ -87,7 +120,7 @@ impl<'a> Cursor<'a> {
     }
 
     /// Goes past the next token, where there is one.
-    fn skip(&mut self)
+    pub(crate) fn skip(&mut self)
         ensures { self.new ≡ spec.next self.old }
     {
         if self.at < self.tokens.len() {
@@ -141,14 +174,56 @@ impl<'a> Cursor<'a> {
         if !self.sees(Kind::Identifier) {
             return Err(Fault::Syntax);
         }
-        let token = self.tokens.token(self.at);
         let mut text = Text::new(alloc);
-        text.push(text_of(self.tokens, token))?;
+        text.push(self.text())?;
+        let span = self.span();
         self.skip();
-        Ok(Ident {
-            text,
-            span: token.span,
-        })
+        Ok(Ident { text, span })
+    }
+
+    /// Takes a whole number that is not too great. A fault leaves the cursor where it was.
+    #[tactic(auto, unfolding(crate::specs::Reading::literal))]
+    pub(crate) fn integer(&mut self) -> Result<i32, Fault>
+        ensures { Gives (spec.literal Kind.Integer literals.integer_of self.old) result self.new }
+    {
+        if !self.sees(Kind::Integer) {
+            return Err(Fault::Syntax);
+        }
+        let Some(value) = integer(self.text()) else {
+            return Err(Fault::Syntax);
+        };
+        self.skip();
+        Ok(value)
+    }
+
+    /// Takes another number that is in range. A fault leaves the cursor where it was.
+    #[tactic(auto, unfolding(crate::specs::Reading::literal))]
+    pub(crate) fn real(&mut self) -> Result<Real, Fault>
+        ensures { Gives (spec.literal Kind.Real spec.real_of self.old) result self.new }
+    {
+        if !self.sees(Kind::Real) {
+            return Err(Fault::Syntax);
+        }
+        let Ok(value) = cdl_decimal::parse(self.text()) else {
+            return Err(Fault::Syntax);
+        };
+        self.skip();
+        Ok(value)
+    }
+
+    /// Takes a string. A fault leaves the cursor where it was.
+    #[tactic(auto, unfolding(crate::specs::Reading::literal))]
+    pub(crate) fn string(&mut self, alloc: Global) -> Result<Text, Fault>
+        ensures { Gives (spec.literal Kind.Str literals.string_of self.old) result self.new }
+    {
+        if !self.sees(Kind::Str) {
+            return Err(Fault::Syntax);
+        }
+        let Some(value) = string(alloc, self.text())? else {
+            return Err(Fault::Syntax);
+        };
+        self.skip();
+        Ok(value)
     }
 
     /// The same place, to tell later what was read from here on.
@@ -174,6 +249,17 @@ impl<'a> Cursor<'a> {
         Span {
             start: first.span.start,
             end: last.span.end,
+        }
+    }
+
+    /// The expression over the tokens that were read since `start`.
+    #[tactic(auto, unfolding(cdl_tree::specs::Trees::tree))]
+    pub(crate) fn made(&self, node: Node, start: &Cursor<'_>) -> Expr
+        ensures { result ≡ trees.tree node (spec.since start.now self.now) }
+    {
+        Expr {
+            node,
+            span: self.span_since(start),
         }
     }
 

@@ -1,26 +1,28 @@
-//! The trees of files, and the grammar that derives them from tokens.
+//! The trees of files: the grammar's one tree of a list of tokens, or the exact place at which no sentence goes on.
 #![tactic(auto)]
 
 ghost use Rattle.std.specs.Prelude.{◌≡◌, IfOk, IfErr};
 ghost use Rattle.cdl_parse.specs.declared.ParseFault.TheVariants.{Rule};
-ghost use Rattle.cdl_parse.specs.declared.tree.FileTree.{FileTree as Tree};
-ghost use Rattle.cdl_parse.specs.Terminals.{terminals};
-ghost use Rattle.cdl_parse.specs.Grammar.{Sentence};
-ghost use Rattle.cdl_parse.specs.Verdict.{IsTree, IsRefused};
+ghost use Rattle.cdl_tree.specs.declared.class.FileTree.{FileTree as Tree};
+ghost use Rattle.cdl_parse.specs.Verdict.{word_of, Closes, IsTree, IsRefused, begin_of};
 
+mod class;
+mod closed;
+mod connection;
 mod cursor;
-mod grammar;
-mod kind;
-mod tree;
+mod declaration;
+mod expression;
+mod file;
+mod law;
 
+use crate::closed::ClosedFile;
 use crate::cursor::{Cursor, Fault};
-use crate::grammar::Grammar;
-use crate::tree::Closed;
+use crate::file::whole_file;
 use cdl_lex::Tokens;
 use cdl_source::Place;
-pub use kind::Kind;
+use cdl_tree::FileTree;
+pub use law::one_tree;
 use std::alloc::Global;
-pub use tree::{Connect, FileTree, Ident, Item, Name, Ref};
 
 /// Why tokens have no tree.
 #[derive(Clone, Copy, Debug, PartialEq, Eq)]
@@ -31,53 +33,61 @@ pub enum ParseFault {
     OutOfMemory,
 }
 
-// C9: a form that is not built yet.
-const NOT_BUILT: u32 = 9;
+// C7: the tokens are no file.
+const SYNTAX: u32 = 7;
 
-/// The tree of the tokens of a file. The form that is built is
+// C8: the identifier behind `end` is not that of its class.
+const WRONG_NAME: u32 = 8;
+
+/// The tree of the tokens of a file, where they are a sentence of the grammar (docs/LANGUAGE.md) and each identifier behind
+/// an `end` is that of its class. There is one.
 ///
-/// ```text
-/// file    = "block" IDENT { clause } "equation" { connect } "end" IDENT ";"
-/// clause  = IDENT { "." IDENT } IDENT ";"
-/// connect = "connect" "(" ref "," ref ")" ";"
-/// ref     = IDENT [ "." IDENT ]
-/// ```
-///
-/// with the same identifier behind `block` and `end`. Other tokens are refused by rule 9, at byte 0 of their file. The
-/// time is linear in the number of bytes, and no text makes the stack deep.
+/// Tokens that are no sentence are refused by rule 7. Its place is the first byte of the first token behind the longest
+/// front of the tokens that begins a sentence, or the end of the file where all of them begin one. A sentence in which an
+/// identifier behind an `end` is not that of its block or package is refused by rule 8, at the first byte of the first such
+/// identifier. The time is linear in the number of tokens. The stack grows with the nesting of the text and with the
+/// operators of one expression, which rules 5 and 6 bound.
 pub fn parse(alloc: Global, tokens: &Tokens) -> Result<FileTree, ParseFault>
-    // The tree that is given derives the tokens.
-    ensures found { IfOk result (λ tree. Sentence (terminals tokens.now) tree) }
-    // A tree that derives the tokens is the one that is given, unless memory fails.
-    ensures only { (tree : Tree) → Sentence (terminals tokens.now) tree → IsTree tree result }
-    // Tokens that are refused have no tree.
+    // The tree that is given derives the tokens, and the identifiers behind `end` are right.
+    ensures found { IfOk result (λ tree. Closes (word_of tokens.now) tree) }
+    // A tree that derives the tokens, with right identifiers behind `end`, is the one that is given, unless memory fails.
+    ensures only { (tree : Tree) → Closes (word_of tokens.now) tree → IsTree tree result }
+    // Tokens that are refused are no sentence, and the place is exact; or the first wrong identifier is named.
     ensures refused { IfErr result (IsRefused tokens.now) }
 {
-    let grammar = Grammar {
-        alloc,
-        most: tokens.len(),
-    };
-    match grammar.whole(&mut Cursor::new(tokens)) {
-        Ok(Closed { tree, end }) => {
-            if tree.name.text.bytes() == end.text.bytes() {
-                Ok(tree)
-            } else {
-                Err(refused(tokens))
-            }
+    let mut cursor = Cursor::new(tokens);
+    match whole_file(alloc, &mut cursor, tokens.len()) {
+        Ok(ClosedFile { tree, wrong }) => match wrong {
+            None => Ok(tree),
+            Some(byte) => Err(broken(tokens, WRONG_NAME, byte)),
+        },
+        Err(Fault::Syntax) => {
+            let before = tokens.len().saturating_sub(cursor.left());
+            Err(broken(tokens, SYNTAX, begin(tokens, before)))
         }
-        Err(Fault::Syntax) => Err(refused(tokens)),
         Err(Fault::OutOfMemory) => Err(ParseFault::OutOfMemory),
     }
 }
 
-fn refused(tokens: &Tokens) -> ParseFault
-    ensures { result ≡ Rule NOT_BUILT (record { file = tokens.now.file; byte = 0 }) }
+// Where the token of this number begins, or the end of the file.
+fn begin(tokens: &Tokens, number: usize) -> u32
+    ensures { result ≡ begin_of tokens.now.bytes tokens.now.items number }
+{
+    if number < tokens.len() {
+        tokens.token(number).span.start
+    } else {
+        tokens.bytes().len() as u32
+    }
+}
+
+fn broken(tokens: &Tokens, rule: u32, byte: u32) -> ParseFault
+    ensures { result ≡ Rule rule (record { file = tokens.now.file; byte = byte }) }
 {
     ParseFault::Rule {
-        rule: NOT_BUILT,
+        rule,
         place: Place {
             file: tokens.file(),
-            byte: 0,
+            byte,
         },
     }
 }

@@ -1,94 +1,263 @@
 use super::*;
 use cdl_lex::lex;
-use cdl_source::Span;
+use cdl_source::{Span, Text};
 use std::test::Fail;
 
-// The numbers of components and of connect statements, or None where the tokens break rule 9 at byte 0 of the file.
-fn counts(alloc: Global, text: &[u8]) -> Result<Option<(usize, usize)>, Fail> {
+// The rule and the byte at which a text is refused, or None where it has a tree.
+fn refusal(alloc: Global, text: &[u8]) -> Result<Option<(u32, usize)>, Fail> {
     let tokens = lex(alloc, 3, text)?;
     match parse(alloc, &tokens) {
-        Ok(file) => Ok(Some((file.items.items().len(), file.connects.items().len()))),
+        Ok(_) => Ok(None),
         Err(
             ParseFault::Rule {
-                rule: 9,
-                place: Place { file: 3, byte: 0 },
+                rule,
+                place: Place { file: 3, byte },
             },
-        ) => Ok(None),
+        ) => Ok(Some((rule, byte as usize))),
         Err(fault) => Err(fault)?,
     }
 }
 
+// Whether a text is refused by the rule, at the byte that the sign `~` in the row marks; the text is the row without it.
+fn is_refused(alloc: Global, row: &str, rule: u32) -> Result<bool, Fail> {
+    let (front, back) = row.split_once('~').ok_or("no place")?;
+    let mut text = Text::new(alloc);
+    text.push(front.as_bytes())?;
+    text.push(back.as_bytes())?;
+    Ok(refusal(alloc, text.bytes())? == Some((rule, front.len())))
+}
+
+// Sentences.
+const RIGHT: &str = "\
+    block M end M;\n\
+    within; block M end M;\n\
+    within A.B; block M end M; package P end P;\n\
+    block M \"a\" + \"b\" end M;\n\
+    block M final parameter P.T a[:, 2] \"first\" + \"words\", b(k = 1) = 2 if c; end M;\n\
+    block M R x(each final k(min = 0) = 1 \"t\"), y() annotation(); end M;\n\
+    block M annotation(a[b]({c; end}, \"x\" ^ when)); public R x; protected R y; end M;\n\
+    block M equation connect(a, b[1:2, :, i].c) \"w\" annotation(x); annotation(); connect(a, b); end M;\n\
+    package P constant Integer n = 3, m; public type E = enumeration(low, high \"top\") annotation(); package Q block M end M; end Q; end P;\n\
+    block M parameter R p = if a then 1 elseif b then 2 else f() + g(1, x[2, 3]); end M;\n\
+    block M parameter R p = not a and -b < c * 2.5e1 or {1, {2}} == (d); end M;\n\
+    block M parameter R p = \"a\" \"b\"; end M;\n\
+    block M equation end M;\n";
+
+// Texts that are no sentence.
+const BROKEN: &str = "\
+    within~\n\
+    within A~\n\
+    within A.~\n\
+    within A.B;~\n\
+    within ~1; block M end M;\n\
+    within A ~B; block M end M;\n\
+    ~M\n\
+    block M end M; ~M\n\
+    block M end M;~;\n\
+    block M end M ~within;\n\
+    block~\n\
+    block M~\n\
+    block M end~\n\
+    block M end M~\n\
+    block ~1 end M;\n\
+    block M end ~;\n\
+    block M end ~end;\n\
+    block M equation ~equation end M;\n\
+    block M equation ~public end M;\n\
+    block M ~within; end M;\n\
+    block M ~type E = enumeration(a); end M;\n\
+    block M \"a\" +~\n\
+    block M public~\n\
+    block M equation connect~\n\
+    block M equation connect(~\n\
+    block M equation connect(a~\n\
+    block M equation connect(a,~\n\
+    block M equation connect(a, b~\n\
+    block M equation connect(a, b)~\n\
+    block M equation connect(a, b);~\n\
+    block M equation connect(a[~\n\
+    block M equation connect(a[1:~\n\
+    block M equation connect(a[1:2~\n\
+    block M equation connect(a ~b); end M;\n\
+    block M equation connect(a, b) ~end M;\n\
+    block M equation connect ~a, b); end M;\n\
+    block M equation connect(a~; b); end M;\n\
+    block M equation connect(a[1:2~:3], b); end M;\n\
+    block M equation connect(a[~], b); end M;\n\
+    block M equation connect(a.~, b); end M;\n\
+    block M equation connect(f~(x), b); end M;\n\
+    block M equation connect(~1, b); end M;\n\
+    block M equation connect(a, b ~c); end M;\n\
+    block M ~connect(a, b); end M;\n\
+    block M R~\n\
+    block M R.~\n\
+    block M R x~\n\
+    block M R x,~\n\
+    block M R x[~\n\
+    block M R x[:~\n\
+    block M R x(~\n\
+    block M R x(k~\n\
+    block M R x(k=~\n\
+    block M R x(k=1~\n\
+    block M R x(k=1,~\n\
+    block M R x =~\n\
+    block M R x = 1 if~\n\
+    block M R x \"a\" +~\n\
+    block M final~\n\
+    block M parameter~\n\
+    block M R x annotation~\n\
+    block M R x annotation(~\n\
+    block M R~; end M;\n\
+    block M R x ~y; end M;\n\
+    block M R x ~end M;\n\
+    block M R x[~]; end M;\n\
+    block M R x(k=1 ~j=2); end M;\n\
+    block M R x(each final ~each k=1); end M;\n\
+    block M R x(final ~each k=1); end M;\n\
+    block M R x(~1); end M;\n\
+    block M R x if c ~= 1; end M;\n\
+    block M parameter ~parameter R x; end M;\n\
+    block M parameter ~final R x; end M;\n\
+    block M constant ~parameter R x; end M;\n\
+    block M R x \"a\" ~\"b\"; end M;\n\
+    block M R x annotation() ~\"a\"; end M;\n\
+    block M R x = 1 ~[2]; end M;\n\
+    block M R ~1; end M;\n\
+    block M R.~1 x; end M;\n\
+    block M annotation(a[b~)c]); end M;\n\
+    block M annotation({~)}); end M;\n\
+    block M annotation() ~end M;\n\
+    block M annotation(~]); end M;\n\
+    block M annotation ~; end M;\n\
+    block M annotation((a); end M;~\n\
+    block M parameter R p=1 +~\n\
+    block M parameter R p=(1~\n\
+    block M parameter R p={1~\n\
+    block M parameter R p={1,~\n\
+    block M parameter R p=f(~\n\
+    block M parameter R p=f(1~\n\
+    block M parameter R p=f(1,~\n\
+    block M parameter R p=x[~\n\
+    block M parameter R p=x[1~\n\
+    block M parameter R p=x.~\n\
+    block M parameter R p=if a~\n\
+    block M parameter R p=if a then~\n\
+    block M parameter R p=if a then 1~\n\
+    block M parameter R p=if a then 1 elseif~\n\
+    block M parameter R p=if a then 1 elseif b~\n\
+    block M parameter R p=if a then 1 elseif b then~\n\
+    block M parameter R p=if a then 1 elseif b then 2~\n\
+    block M parameter R p=if a then 1 else~\n\
+    block M parameter R p=not~\n\
+    block M parameter R p=a or~\n\
+    block M parameter R p=a <~\n\
+    block M parameter R p=-~\n\
+    block M parameter R p=1 * ~-1; end M;\n\
+    block M parameter R p=a < b ~< c; end M;\n\
+    block M parameter R p={~}; end M;\n\
+    block M parameter R p=not ~not a; end M;\n\
+    block M parameter R p=-~-1; end M;\n\
+    block M parameter R p=1 + ~+1; end M;\n\
+    block M parameter R p=(1~; end M;\n\
+    block M parameter R p=(1~]; end M;\n\
+    block M parameter R p={1~); end M;\n\
+    block M parameter R p={1,~}; end M;\n\
+    block M parameter R p=f(1,~); end M;\n\
+    block M parameter R p=x[~]; end M;\n\
+    block M parameter R p=x[1]~.y; end M;\n\
+    block M parameter R p=a.b~(1); end M;\n\
+    block M parameter R p=if a then 1~; end M;\n\
+    block M parameter R p=if a ~else 1; end M;\n\
+    block M parameter R p=if a then 1 else 2 ~else 3; end M;\n\
+    block M parameter R p=a and ~or b; end M;\n\
+    block M parameter R p=a ~then b; end M;\n\
+    block M parameter R p=1 ~2; end M;\n\
+    block M parameter R p=a ~^ b; end M;\n\
+    block M parameter R p=a == ~== b; end M;\n\
+    block M parameter R p=a + ~not b; end M;\n\
+    block M parameter R p=(~); end M;\n\
+    block M parameter R p=1 + ~if a then 1 else 2; end M;\n\
+    block M parameter R p=~; end M;\n\
+    package~\n\
+    package P~\n\
+    package P final~\n\
+    package P constant~\n\
+    package P block M end M~\n\
+    package P end~\n\
+    package P ~R x; end P;\n\
+    package P ~parameter R x; end P;\n\
+    package P final ~R x; end P;\n\
+    package P block M end M ~end P;\n\
+    package P ~equation end P;\n\
+    package P constant ~; end P;\n\
+    package P constant R x ~end P;\n\
+    package P public ~; end P;\n\
+    type E~\n\
+    type E=~\n\
+    type E = enumeration~\n\
+    type E = enumeration(~\n\
+    type E = enumeration(a~\n\
+    type E = enumeration(a,~\n\
+    type E = enumeration(a, b)~\n\
+    type E ~(a);\n\
+    type E = ~block;\n\
+    type E = enumeration(~);\n\
+    type E = enumeration(a ~b);\n\
+    type E = enumeration(a~(1));\n\
+    type E = enumeration(a) ~end E;\n\
+    block M equation~\n\
+    block M equation connect(a, b); end~\n\
+    block M equation connect(a, b); end M~\n";
+
+// Sentences with a wrong identifier behind an `end`.
+const MISNAMED: &str = "\
+    block M end ~N;\n\
+    package P block M end ~N; end Q;\n\
+    package P block M end M; end ~Q;\n\
+    block A end A; block B end ~A;\n\
+    block M end ~m;\n\
+    package P package Q end ~P; end P; block M end N;\n";
+
 #[test]
-fn each_production_is_read_whole(rt: HostRuntime) -> Result<(), Fail> {
-    let alloc = rt.alloc();
-    let cases: [(&[u8], Option<(usize, usize)>); 36] = [
-        (b"block A equation end A;", Some((0, 0))),
-        (b"", None),
-        (b"A equation end A;", None),
-        (b"block equation end A;", None),
-        (b"block end equation end end;", None),
-        (b"block A end A;", None),
-        (b"block A equation A;", None),
-        (b"block A equation end;", None),
-        (b"block A equation end A", None),
-        (b"block A equation end A;;", None),
-        (b"block A equation end a;", None),
-        (b"block A equation end AA;", None),
-        (b"block A u x; equation end A;", Some((1, 0))),
-        (b"block A u.v.w x; u y; equation end A;", Some((2, 0))),
-        (b"block A u . v x; equation end A;", Some((1, 0))),
-        (b"block A u x equation end A;", None),
-        (b"block A u; equation end A;", None),
-        (b"block A u.x; equation end A;", None),
-        (b"block A u..v x; equation end A;", None),
-        (b"block A .u x; equation end A;", None),
-        (b"block A u x y; equation end A;", None),
-        (b"block A u x, y; equation end A;", None),
-        (b"block A ; equation end A;", None),
-        (b"block A equation u x; end A;", None),
-        (b"block A equation connect(a, b); end A;", Some((0, 1))),
-        (
-            b"block A equation connect(a.b, c.d); connect(a, b); end A;",
-            Some((0, 2)),
-        ),
-        (b"block A connect(a, b); equation end A;", None),
-        (b"block A equation (a, b); end A;", None),
-        (b"block A equation connect a, b); end A;", None),
-        (b"block A equation connect(a b); end A;", None),
-        (b"block A equation connect(a, b; end A;", None),
-        (b"block A equation connect(a, b) end A;", None),
-        (b"block A equation connect(, b); end A;", None),
-        (b"block A equation connect(a, ); end A;", None),
-        (b"block A equation connect(a.b.c, d); end A;", None),
-        (b"block A equation connect(a, b.); end A;", None),
-    ];
-    for (text, want) in cases {
-        assert_eq!(rt; counts(alloc, text)?, want, "at {}", text.len());
+fn each_text_has_a_tree_or_its_place(rt: HostRuntime) -> Result<(), Fail> {
+    for text in RIGHT.lines() {
+        assert_eq!(rt; refusal(rt.alloc(), text.as_bytes())?, None, "{text}");
+    }
+    for row in BROKEN.lines() {
+        assert!(rt; is_refused(rt.alloc(), row, 7)?, "{row}");
+    }
+    for row in MISNAMED.lines() {
+        assert!(rt; is_refused(rt.alloc(), row, 8)?, "{row}");
     }
     Ok(())
 }
 
 #[test]
-fn trees_have_names_and_spans(rt: HostRuntime) -> Result<(), Fail> {
+fn places_at_the_end_of_a_file(rt: HostRuntime) -> Result<(), Fail> {
     let alloc = rt.alloc();
+    assert_eq!(rt; refusal(alloc, b"")?, Some((7, 0)));
+    assert_eq!(rt; refusal(alloc, b"block M\nend M")?, Some((7, 13)));
+    assert_eq!(rt; refusal(alloc, b"block M\nend N;")?, Some((8, 12)));
+    let mut blanks = Text::new(alloc);
+    for _ in 0..8_192 {
+        blanks.push(b"                                                                ")?;
+    }
+    assert_eq!(rt; refusal(alloc, blanks.bytes())?, Some((7, 524_288)));
+    // The tree of a block, with its spans.
     let tokens = lex(
         alloc,
         0,
-        b"block A u.v x; equation connect(a.b, c ) ; end A;",
+        b"block M R x = -1; equation connect(x, y.z ) ; end M;",
     )?;
     let file = parse(alloc, &tokens)?;
-    assert_eq!(rt; file.name.text.bytes(), b"A".as_slice());
-    assert_eq!(rt; file.name.span, Span { start: 6, end: 7 });
-    for item in file.items.items() {
-        assert_eq!(rt; item.name.text.bytes(), b"x".as_slice());
-        assert_eq!(rt; item.span, Span { start: 12, end: 13 });
-        assert_eq!(rt; item.class.parts.items().len(), 2);
-    }
-    for connect in file.connects.items() {
-        assert_eq!(rt; connect.span, Span { start: 24, end: 42 });
-        assert_eq!(rt; connect.left.parts.items().len(), 2);
-        for part in connect.right.parts.items() {
-            assert_eq!(rt; part.text.bytes(), b"c".as_slice());
+    for class in file.classes.items() {
+        assert_eq!(rt; class.name().text.bytes(), b"M".as_slice());
+        assert_eq!(rt; class.span(), Span { start: 0, end: 51 });
+        for item in class.items() {
+            assert_eq!(rt; item.span, Span { start: 10, end: 16 });
+        }
+        for connect in class.connects() {
+            assert_eq!(rt; connect.span, Span { start: 27, end: 45 });
         }
     }
     Ok(())

@@ -103,20 +103,20 @@ fn read_word(kind: ValueType, text: &[u8]) -> Option<i64>
 }
 
 // The word of the field at this place of a record, as a value of this type.
-pub(crate) fn word_at(record: &ByteRecord, at: usize, kind: ValueType) -> Option<i64>
-    ensures { result ≡ option_and_then (word_of kind) (field_at (fields_of record.now) at) }
+pub(crate) fn word_at(csv_record: &ByteRecord, at: usize, kind: ValueType) -> Option<i64>
+    ensures { result ≡ option_and_then (word_of kind) (field_at (fields_of csv_record.now) at) }
 {
-    match record.get(at) {
+    match csv_record.get(at) {
         Some(text) => read_word(kind, text),
         None => None,
     }
 }
 
 // Whether a record has this field at this place.
-pub(crate) fn has_field(record: &ByteRecord, at: usize, text: &[u8]) -> bool
-    ensures { IsTrue result ↔ (field_at (fields_of record.now) at ≡ Some text.now) }
+pub(crate) fn has_field(csv_record: &ByteRecord, at: usize, text: &[u8]) -> bool
+    ensures { IsTrue result ↔ (field_at (fields_of csv_record.now) at ≡ Some text.now) }
 {
-    match record.get(at) {
+    match csv_record.get(at) {
         Some(field) => field == text,
         None => false,
     }

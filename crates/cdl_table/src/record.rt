@@ -11,17 +11,17 @@ use csv::ByteRecord;
 
 // Adds the words of the record's fields behind the first, one for each column.
 fn read_words(
-    record: &ByteRecord,
+    csv_record: &ByteRecord,
     inputs: &[Column],
     number: u32,
     words: &mut List<i64>,
 ) -> Result<(), TableFault>
     requires { length inputs.now < 2 ^ 32 - 2 }
-    ensures ok { OnOk result ((v : List ℤ) × (words.new ≡ words.old ++ v) × (words_from 2 [] inputs.now (drop 1 (fields_of record.now)) ≡ Ok v)) }
-    ensures err { IfErr result (NamesIn number (with_time (pos 0) (words_from 2 [] inputs.now (drop 1 (fields_of record.now))))) }
+    ensures ok { OnOk result ((v : List ℤ) × (words.new ≡ words.old ++ v) × (words_from 2 [] inputs.now (drop 1 (fields_of csv_record.now)) ≡ Ok v)) }
+    ensures err { IfErr result (NamesIn number (with_time (pos 0) (words_from 2 [] inputs.now (drop 1 (fields_of csv_record.now))))) }
 {
     for (i, input) in inputs.iter().enumerate() {
-        let Some(word) = word_at(record, i + 1, input.kind) else {
+        let Some(word) = word_at(csv_record, i + 1, input.kind) else {
             return Err(TableFault::Rule {
                 rule: 65,
                 row: number,
@@ -35,24 +35,24 @@ fn read_words(
 
 // Adds the words of a record, and gives its time, which is above `last`.
 pub(crate) fn read_row(
-    record: &ByteRecord,
+    csv_record: &ByteRecord,
     inputs: &[Column],
     last: i64,
     number: u32,
     words: &mut List<i64>,
 ) -> Result<i64, TableFault>
     requires { length inputs.now < 2 ^ 32 - 2 }
-    ensures ok { IfOk result (λ time. (v : List ℤ) × (words.new ≡ words.old ++ v) × (row_of inputs.now last (fields_of record.now) ≡ Ok (row_with time v))) }
-    ensures err { IfErr result (NamesIn number (row_of inputs.now last (fields_of record.now))) }
+    ensures ok { IfOk result (λ time. (v : List ℤ) × (words.new ≡ words.old ++ v) × (row_of inputs.now last (fields_of csv_record.now) ≡ Ok (row_with time v))) }
+    ensures err { IfErr result (NamesIn number (row_of inputs.now last (fields_of csv_record.now))) }
 {
-    if record.len() != inputs.len() + 1 {
+    if csv_record.len() != inputs.len() + 1 {
         return Err(TableFault::Rule {
             rule: 61,
             row: number,
             column: 1,
         });
     }
-    let Some(field) = record.get(0) else {
+    let Some(field) = csv_record.get(0) else {
         return Err(TableFault::Rule {
             rule: 61,
             row: number,
@@ -73,7 +73,7 @@ pub(crate) fn read_row(
             column: 1,
         });
     }
-    match read_words(record, inputs, number, words) {
+    match read_words(csv_record, inputs, number, words) {
         Ok(()) => Ok(time),
         Err(e) => Err(e),
     }

@@ -1,5 +1,5 @@
-use Rattle.std.proofs.Common.{◌≡◌, ◌-◌, ◌<◌, ◌≤◌, false, length, drop, slice_index}
-use Rattle.cdl_lex.specs.Spellings.{is_blank}
+use Rattle.std.proofs.Common.{◌-◌, ◌≤◌, length, drop}
+use Rattle.cdl_lex.specs.Splits.{mark}
 use Rattle.cdl_lex.proofs.Continues.{Continues}
 use Rattle.cdl_lex.proofs.split.split.Given as goal
 
@@ -7,8 +7,7 @@ abbrev pub invariant-loop-at : goal.invariant-loop-at
 invariant-loop-at l =
     record {
       within : l.at ≤ length l.bytes;
-      no_blank : l.at < length l.bytes → is_blank (slice_index l.bytes l.at) ≡ false;
-      rest : Continues 0 l.bytes l.found l.at (drop l.at l.bytes);
+      reached : Continues (mark l.bytes) (drop (mark l.bytes) l.bytes) l.found l.at (drop l.at l.bytes);
     }
 
 abbrev pub decreases-loop-at : goal.decreases-loop-at

@@ -11,7 +11,7 @@ pub returns-in_default-clause-err : goal.returns-in_default-clause-err
 returns-in_default-clause-err c =
     let inv = c.loop-i.invariant in (
       refl,
-      ap (with_time (pos 0)) (inv.same ∙ words-stop (c.loop-i.i + 2) inv.done c.args.inputs.now (fields_of c.args.record.now) c.loop-i.i c.index-inputs-i.result c.loop-i-test.true c.index-inputs-i.is (sym c.in_default.ensures)),
+      ap (with_time (pos 0)) (inv.same ∙ words-stop (c.loop-i.i + 2) inv.done c.args.inputs.now (fields_of c.args.csv_record.now) c.loop-i.i c.index-inputs-i.result c.loop-i-test.true c.index-inputs-i.is (sym c.in_default.ensures)),
     )
 
 pub loop-i-preserved : goal.loop-i-preserved
@@ -28,5 +28,5 @@ loop-i-preserved c =
           ∙ ap (λ w. c.loop-i.words ++ w ∷ []) same
           ∙ ap (λ (x : List ℤ). x ++ c.in-Some.word ∷ []) inv.flat
           ∙ append_assoc c.args.words.now inv.done (c.in-Some.word ∷ []);
-      same = rw (sym column) (inv.same ∙ words-more (c.loop-i.i + 2) inv.done c.args.inputs.now (fields_of c.args.record.now) c.loop-i.i c.index-inputs-i.result c.in-Some.word c.loop-i-test.true c.index-inputs-i.is (sym c.in-Some.ensures));
+      same = rw (sym column) (inv.same ∙ words-more (c.loop-i.i + 2) inv.done c.args.inputs.now (fields_of c.args.csv_record.now) c.loop-i.i c.index-inputs-i.result c.in-Some.word c.loop-i-test.true c.index-inputs-i.is (sym c.in-Some.ensures));
     }

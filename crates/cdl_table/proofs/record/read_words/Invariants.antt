@@ -9,5 +9,5 @@ invariant-loop-i l =
       few : length l.inputs < 4294967294;
       done : List ℤ;
       flat : l.words ≡ l.initial.words ++ done;
-      same : words_from 2 [] l.inputs (drop 1 (fields_of l.record)) ≡ words_from (l.i + 2) done (drop l.i l.inputs) (drop (l.i + 1) (fields_of l.record));
+      same : words_from 2 [] l.inputs (drop 1 (fields_of l.csv_record)) ≡ words_from (l.i + 2) done (drop l.i l.inputs) (drop (l.i + 1) (fields_of l.csv_record));
     }

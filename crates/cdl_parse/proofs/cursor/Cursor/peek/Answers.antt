@@ -1,5 +1,5 @@
 use Rattle.std.proofs.Common.{sym, ap, ◌∙◌}
-use Rattle.cdl_parse.specs.Terminals.{kind_of}
+use Rattle.cdl_tree.specs.Terminals.{kind_of}
 use Rattle.cdl_parse.proofs.Next.{kind_is}
 use Rattle.cdl_parse.proofs.cursor.Cursor.peek.Goals as goal
 

@@ -1,6 +1,6 @@
 use Rattle.std.proofs.Common.{ap, ◌∙◌}
 use Rattle.cdl_parse.specs.Reading as spec
-use Rattle.cdl_parse.specs.Terminals.{terminals}
+use Rattle.cdl_parse.specs.Verdict.{word_of as terminals}
 use Rattle.cdl_parse.proofs.Next.{next_is}
 use Rattle.cdl_parse.proofs.cursor.Cursor.skip.Goals as goal
 

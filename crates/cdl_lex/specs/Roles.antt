@@ -1,0 +1,39 @@
+-- The part that a token plays in the nesting and in the counts of operators.
+use Rattle.std.specs.Prelude.{if◌then◌else◌, List, [], ◌∷◌, codes}
+use Rattle.std.specs.Str.{bytes_eq}
+use Rattle.cdl_source.specs.declared.place.Sort.{Sort}
+use Rattle.cdl_source.specs.declared.place.Sort.TheVariants as sort
+use Rattle.cdl_source.specs.declared.place.Token.{Token}
+use Rattle.cdl_lex.specs.declared.role.Role.{Role}
+use Rattle.cdl_lex.specs.declared.role.Role.TheVariants as r
+use Rattle.cdl_lex.specs.TokenList.{text_of}
+use Rattle.cdl_lex.specs.Spellings.{Bytes}
+
+abbrev pub roles : List (Bytes × Role)
+roles =
+    (codes "(", r.Opening) ∷ (codes "[", r.Opening) ∷ (codes "{", r.Opening)
+    ∷ (codes ")", r.Closing) ∷ (codes "]", r.Closing) ∷ (codes "}", r.Closing)
+    ∷ (codes "block", r.Class) ∷ (codes "package", r.Class) ∷ (codes "end", r.End)
+    ∷ (codes ",", r.Lead) ∷ (codes "=", r.Lead) ∷ (codes ":", r.Lead) ∷ (codes ";", r.Semicolon)
+    ∷ (codes "if", r.If) ∷ (codes "elseif", r.Operator) ∷ (codes "and", r.Operator) ∷ (codes "or", r.Operator)
+    ∷ (codes "+", r.Operator) ∷ (codes "-", r.Operator) ∷ (codes "*", r.Operator) ∷ (codes "/", r.Operator) ∷ []
+
+-- what the table has for this text
+abbrev pub lookup : List (Bytes × Role) → Bytes → Role
+lookup [] text = r.Other
+lookup (row ∷ rows) text = if bytes_eq row.0 text then row.1 else lookup rows text
+
+unfoldable pub word_role : Bytes → Role
+word_role = lookup roles
+
+-- the role of a token of this sort and text
+abbrev pub role_by : Sort → Bytes → Role
+role_by sort.Identifier text = r.Other
+role_by sort.Integer text = r.Other
+role_by sort.Real text = r.Other
+role_by sort.Str text = r.Other
+role_by sort.Keyword text = word_role text
+role_by sort.Symbol text = word_role text
+
+abbrev pub role_of : Bytes → Token → Role
+role_of bytes t = role_by t.sort (text_of bytes t)

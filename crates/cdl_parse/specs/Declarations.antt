@@ -1,0 +1,239 @@
+-- The parser of texts, annotations, arguments, declarations and connect statements, as a function.
+use Rattle.std.specs.Prelude.{ℕ, zero, suc, Bool, true, false, if◌then◌else◌, List, [], ◌∷◌, ◌++◌, Option, Some, None, Ok, Err}
+use Rattle.cdl_tree.specs.declared.kind.Kind.{Kind}
+use Rattle.cdl_tree.specs.declared.kind.Kind.TheVariants as k
+use Rattle.cdl_tree.specs.declared.expr.Expr.{Expr}
+use Rattle.cdl_tree.specs.declared.class.Prefix.{Prefix}
+use Rattle.cdl_tree.specs.declared.class.Prefix.TheVariants as prefix
+use Rattle.cdl_tree.specs.declared.class.Dim.{Dim}
+use Rattle.cdl_tree.specs.declared.class.Dim.TheVariants as dim
+use Rattle.cdl_tree.specs.declared.class.Modifier.{Modifier}
+use Rattle.cdl_tree.specs.declared.class.Item.{Item}
+use Rattle.cdl_tree.specs.declared.class.Part.{Part}
+use Rattle.cdl_tree.specs.declared.class.Sub.{Sub}
+use Rattle.cdl_tree.specs.declared.class.Sub.TheVariants as sub
+use Rattle.cdl_tree.specs.declared.class.Connect.{Connect}
+use Rattle.cdl_tree.specs.Grammar.{partner, is_plain, the_head}
+use Rattle.cdl_tree.specs.Trees.{the_modifier, listed, Head, the_item, the_part, the_ref, the_connect}
+use Rattle.cdl_parse.specs.Reading.{Parser, ◌>>=◌, ◌>>◌, pure, refuse, kind, next, peek, here, skip, ahead, eat, expect, ident, made, list}
+use Rattle.cdl_parse.specs.Expressions.{name, expr}
+
+-- ---- texts and annotations
+
+unfoldable pub strings_from : ℕ → Parser (Unit {0})
+strings_from zero = pure tt
+strings_from (suc turns) = do
+  more ← eat k.Plus
+  if more then (do expect k.Str; strings_from turns) else pure tt
+
+unfoldable pub text_of : ℕ → Parser (Unit {0})
+text_of most = do
+  some ← eat k.Str
+  if some then strings_from most else pure tt
+
+-- no closing bracket and not the end
+abbrev pub begins_balanced : Kind → Bool
+begins_balanced k.Close = false
+begins_balanced k.CloseBracket = false
+begins_balanced k.CloseBrace = false
+begins_balanced k.Nothing = false
+begins_balanced _ = true
+
+-- a token that is no bracket
+unfoldable pub plain : Parser (Unit {0})
+plain = λ i. if is_plain (kind i) then Ok (tt, next i) else Err i
+
+module _ (inner : Parser (Unit {0})) where
+  abbrev pub balanced_by : Option Kind → Parser (Unit {0})
+  balanced_by (Some closer) = do
+    skip
+    inner
+    expect closer
+  balanced_by None = plain
+
+  -- a token, or brackets and what they enclose
+  unfoldable pub balanced_part : Parser (Unit {0})
+  balanced_part = peek >>= (λ kind. balanced_by (partner kind))
+
+  unfoldable pub balanced_from : ℕ → Parser (Unit {0})
+  balanced_from zero = pure tt
+  balanced_from (suc turns) = do
+    kind ← peek
+    if begins_balanced kind then (do balanced_part; balanced_from turns) else pure tt
+
+-- balanced tokens that nest no deeper than the number
+unfoldable pub balanced : ℕ → Parser (Unit {0})
+balanced zero = pure tt
+balanced (suc depth) = balanced_from (balanced depth) (suc depth)
+
+unfoldable pub note : ℕ → Parser (Unit {0})
+note most = do
+  expect k.Annotation
+  expect k.Open
+  balanced most
+  expect k.Close
+
+unfoldable pub note_clause : ℕ → Parser (Unit {0})
+note_clause most = do
+  note most
+  expect k.Semicolon
+
+unfoldable pub tail : ℕ → Parser (Unit {0})
+tail most = do
+  text_of most
+  some ← ahead k.Annotation
+  if some then note most else pure tt
+
+-- ---- arguments
+
+-- an expression behind a word or a symbol, where it stands
+unfoldable pub optional : Kind → ℕ → Parser (Option Expr)
+optional kind most = do
+  some ← eat kind
+  if some then (do e ← expr most; pure (Some e)) else pure None
+
+unfoldable pub optional_args : Parser (List Modifier) → Parser (Option (List Modifier))
+optional_args whole = do
+  some ← ahead k.Open
+  if some then (do ms ← whole; pure (Some ms)) else pure None
+
+module _ (depth : ℕ) (whole : Parser (List Modifier)) where
+  unfoldable pub arg : Parser Modifier
+  arg = do
+    start ← here
+    each ← eat k.Each
+    is_final ← eat k.Final
+    name ← ident
+    args ← optional_args whole
+    value ← optional k.Equals depth
+    text_of depth
+    made (the_modifier each is_final name args value) start
+
+  unfoldable pub arg_list : Parser (List Modifier)
+  arg_list = list k.Comma arg depth []
+
+  unfoldable pub arguments : Parser (List Modifier)
+  arguments = do
+    expect k.Open
+    empty ← eat k.Close
+    if empty then pure [] else (do ms ← arg_list; expect k.Close; pure ms)
+
+-- arguments that nest no deeper than the number
+unfoldable pub args : ℕ → Parser (List Modifier)
+args zero = refuse
+args (suc depth) = arguments depth (args depth)
+
+-- ---- declarations
+
+unfoldable pub prefix_of : Parser Prefix
+prefix_of = do
+  parameter ← eat k.Parameter
+  if parameter then pure prefix.Parameter else (do constant ← eat k.Constant; if constant then pure prefix.Constant else pure prefix.Plain)
+
+abbrev pub begins_statement : Kind → Bool
+begins_statement k.Connect = true
+begins_statement k.Annotation = true
+begins_statement _ = false
+
+module _ (most : ℕ) where
+  unfoldable pub dim_of : Parser Dim
+  dim_of = do
+    any ← eat k.Colon
+    if any then pure dim.Any else (do e ← expr most; pure (dim.Size e))
+
+  unfoldable pub dim_list : Parser (List Dim)
+  dim_list = list k.Comma dim_of most []
+
+  unfoldable pub dims : Parser (List Dim)
+  dims = do
+    some ← eat k.OpenBracket
+    if some then (do ds ← dim_list; expect k.CloseBracket; pure ds) else pure []
+
+  unfoldable pub decl : Head → Parser Item
+  decl head = do
+    start ← here
+    name ← ident
+    ds ← dims
+    ms ← optional_args (args most)
+    value ← optional k.Equals most
+    condition ← optional k.If most
+    tail most
+    made (the_item head name ds (listed ms) value condition) start
+
+  unfoldable pub decls : Head → List Item → Parser (List Item)
+  decls head found = list k.Comma (decl head) most found
+
+  -- the items of a clause, behind those that are found
+  unfoldable pub clause : List Item → Parser (List Item)
+  clause found = do
+    is_final ← eat k.Final
+    p ← prefix_of
+    class ← name most
+    xs ← decls (the_head is_final p class) found
+    expect k.Semicolon
+    pure xs
+
+  unfoldable pub constant : List Item → Parser (List Item)
+  constant found = do
+    is_final ← eat k.Final
+    expect k.Constant
+    class ← name most
+    xs ← decls (the_head is_final prefix.Constant class) found
+    expect k.Semicolon
+    pure xs
+
+  -- ---- connect statements
+
+  unfoldable pub sub_of : Parser Sub
+  sub_of = do
+    all ← eat k.Colon
+    if all then pure sub.All else (do
+      low ← expr most
+      ranged ← eat k.Colon
+      if ranged then (do high ← expr most; pure (sub.Range low high)) else pure (sub.One low))
+
+  unfoldable pub sub_list : Parser (List Sub)
+  sub_list = list k.Comma sub_of most []
+
+  unfoldable pub subs : Parser (List Sub)
+  subs = do
+    some ← eat k.OpenBracket
+    if some then (do ss ← sub_list; expect k.CloseBracket; pure ss) else pure []
+
+  unfoldable pub part : Parser Part
+  part = do
+    name ← ident
+    ss ← subs
+    pure (the_part name ss)
+
+  unfoldable pub reference : Parser (List Part)
+  reference = list k.Period part most []
+
+  unfoldable pub connect : Parser Connect
+  connect = do
+    start ← here
+    expect k.Connect
+    expect k.Open
+    left ← reference
+    expect k.Comma
+    right ← reference
+    expect k.Close
+    tail most
+    expect k.Semicolon
+    made (the_connect (the_ref left) (the_ref right)) start
+
+  unfoldable pub statement : List Connect → Parser (List Connect)
+  statement found = do
+    is_connect ← ahead k.Connect
+    if is_connect then (do c ← connect; pure (found ++ c ∷ [])) else (do note_clause most; pure found)
+
+  unfoldable pub statements_from : ℕ → List Connect → Parser (List Connect)
+  statements_from zero found = pure found
+  statements_from (suc turns) found = do
+    kind ← peek
+    if begins_statement kind then (do more ← statement found; statements_from turns more) else pure found
+
+  unfoldable pub equation_part : Parser (List Connect)
+  equation_part = do
+    some ← eat k.Equation
+    if some then statements_from most [] else pure []

@@ -1,0 +1,89 @@
+// Files.
+ghost use Rattle.std.specs.Prelude.{◌≡◌};
+ghost use Rattle.cdl_parse.specs.Gives.{Gives};
+ghost use Rattle.cdl_parse.specs.Classes as spec;
+
+use crate::class::file_class;
+use crate::closed::{ClosedFile, FileParts};
+use crate::cursor::{Cursor, Fault};
+use crate::expression::name;
+use cdl_source::List;
+use cdl_tree::{FileTree, Kind, Name};
+use std::alloc::Global;
+
+// [ name ] ";"
+#[tactic(auto, unfolding(crate::specs::Classes::within_name))]
+fn within_name(alloc: Global, tokens: &mut Cursor<'_>, most: usize) -> Result<Option<Name>, Fault>
+    ensures { Gives (spec.within_name most tokens.old) result tokens.new }
+{
+    if tokens.eat(Kind::Semicolon) {
+        return Ok(None);
+    }
+    let parts = name(alloc, tokens, most)?;
+    tokens.expect(Kind::Semicolon)?;
+    Ok(Some(Name { parts }))
+}
+
+// [ "within" [ name ] ";" ]
+#[tactic(auto, unfolding(crate::specs::Classes::within))]
+fn within(alloc: Global, tokens: &mut Cursor<'_>, most: usize) -> Result<Option<Name>, Fault>
+    ensures { Gives (spec.within most tokens.old) result tokens.new }
+{
+    if tokens.eat(Kind::Within) {
+        within_name(alloc, tokens, most)
+    } else {
+        Ok(None)
+    }
+}
+
+fn begins_class(kind: Kind) -> bool
+    ensures { result ≡ spec.begins_class kind }
+{
+    match kind {
+        Kind::Block | Kind::Package | Kind::Type => true,
+        _ => false,
+    }
+}
+
+// class ";" { class ";" }
+fn classes(alloc: Global, tokens: &mut Cursor<'_>, most: usize) -> Result<FileParts, Fault>
+    ensures { Gives (spec.file_classes most tokens.old) result tokens.new }
+{
+    let none = FileParts {
+        classes: List::new(alloc),
+        wrong: None,
+    };
+    let mut found = file_class(alloc, tokens, most, none)?;
+    for _turn in 0..most {
+        if !begins_class(tokens.peek()) {
+            return Ok(found);
+        }
+        found = file_class(alloc, tokens, most, found)?;
+    }
+    Ok(found)
+}
+
+// file = [ "within" [ name ] ";" ] class ";" { class ";" }
+#[tactic(auto, unfolding(crate::specs::Classes::file))]
+fn file(alloc: Global, tokens: &mut Cursor<'_>, most: usize) -> Result<ClosedFile, Fault>
+    ensures { Gives (spec.file most tokens.old) result tokens.new }
+{
+    let within = within(alloc, tokens, most)?;
+    let FileParts { classes, wrong } = classes(alloc, tokens, most)?;
+    let tree = FileTree { within, classes };
+    Ok(ClosedFile { tree, wrong })
+}
+
+/// A file and nothing behind it.
+#[tactic(auto, unfolding(crate::specs::Classes::whole_file))]
+pub(crate) fn whole_file(
+    alloc: Global,
+    tokens: &mut Cursor<'_>,
+    most: usize,
+) -> Result<ClosedFile, Fault>
+    ensures { Gives (spec.whole_file most tokens.old) result tokens.new }
+{
+    let file = file(alloc, tokens, most)?;
+    tokens.expect_end()?;
+    Ok(file)
+}
