@@ -1,0 +1,11 @@
+pub mod ListFacts
+pub mod PlainFacts
+pub mod System
+pub mod NameFacts
+pub mod Declaring
+pub mod JoinSteps
+pub mod NetFacts
+pub mod Equations
+pub mod JoinFacts
+pub mod FlatLaw
+pub mod Ticks

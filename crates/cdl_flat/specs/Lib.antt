@@ -1,0 +1,12 @@
+pub mod Lists
+pub mod PlainKinds
+pub mod Blocks
+pub mod Names
+pub mod Ends
+pub mod Flat
+pub mod Solution
+pub mod Declaring
+pub mod Joining
+pub mod Nets
+pub mod Runs
+pub mod NetBlocks

@@ -1,0 +1,301 @@
+// What a block declares.
+ghost use Rattle.std.specs.Prelude.{◌≡◌, ◌++◌, ◌∷◌, [], true, None, IfOk, IfSome, length, slice_get};
+ghost use Rattle.std.specs.Option.{option_map};
+ghost use Rattle.cdl_flat.specs.Blocks.{nothing_declared, place_among, place_of, with_part};
+ghost use Rattle.cdl_flat.specs.Declaring as spec;
+ghost use Rattle.cdl_flat.specs.Lists.{Each};
+ghost use Rattle.cdl_flat.specs.Names.{names_in};
+ghost use Rattle.cdl_flat.specs.PlainKinds.{is_plain_kind};
+
+use crate::part::{Component, Part, Place};
+use crate::plain_kind::is_plain_kind;
+use cdl_kinds::{Kind, ValueType};
+use cdl_source::{List, OutOfMemory, Text};
+use cdl_table::Column;
+use cdl_tree::{Item, Prefix};
+use indexmap::IndexMap;
+use std::alloc::Global;
+use std::marker::Model;
+
+/// The inputs, the outputs and the components of a block, each in the order of declaration, and what each name stands for.
+/// The kinds of the components have no parameter, and their blocks no memory.
+#[derive(Drop)]
+pub(crate) struct Declared {
+    alloc: Global,
+    inputs: List<Column>,
+    outputs: List<Column>,
+    components: List<Component>,
+    places: IndexMap<Vec<u8>, Place>,
+}
+
+impl Model for Declared {
+    ghost use Rattle.std.specs.Prelude.{◌≡◌, true};
+    ghost use Rattle.cdl_flat.specs.Blocks.{Declarations};
+    ghost use Rattle.cdl_flat.specs.Lists.{Each};
+    ghost use Rattle.cdl_flat.specs.Names.{names_in};
+    ghost use Rattle.cdl_flat.specs.PlainKinds.{is_plain_kind};
+
+    ghost Value = { Declarations };
+
+    ghost view = { λ d. record { inputs = d.inputs; outputs = d.outputs; components = d.components; names = names_in d.places.entries } };
+
+    ghost invariant = { λ d. Each (λ c. is_plain_kind c.kind ≡ true) d.components };
+}
+
+fn copy(alloc: Global, name: &[u8]) -> Result<Text, OutOfMemory>
+    ensures { IfOk result (λ t. t ≡ name.now) }
+{
+    let mut text = Text::new(alloc);
+    text.push(name)?;
+    Ok(text)
+}
+
+fn column(alloc: Global, name: &[u8], kind: ValueType) -> Result<Column, OutOfMemory>
+    ensures { IfOk result (λ c. c ≡ record { name = name.now; kind = kind }) }
+{
+    let name = copy(alloc, name)?;
+    Ok(Column { name, kind })
+}
+
+/// Equal columns.
+pub(crate) fn copy_columns(alloc: Global, columns: &[Column]) -> Result<List<Column>, OutOfMemory>
+    ensures { IfOk result (λ copies. copies ≡ columns.now) }
+{
+    let mut copies = List::new(alloc);
+    for one in columns {
+        copies.push(column(alloc, one.name.bytes(), one.kind)?)?;
+    }
+    Ok(copies)
+}
+
+// Gives a name that stands for nothing its place.
+fn add_name(
+    alloc: Global,
+    mut places: IndexMap<Vec<u8>, Place>,
+    name: &[u8],
+    place: Place,
+) -> Result<IndexMap<Vec<u8>, Place>, OutOfMemory>
+    requires { place_among (names_in places.entries) name.now ≡ None }
+    ensures { IfOk result (λ m. names_in m.entries ≡ names_in places.entries ++ record { name = name.now; place = place } ∷ []) }
+{
+    let key = Vec::from_slice(alloc, name)?;
+    places.insert(key, place)?;
+    Ok(places)
+}
+
+impl Declared {
+    /// Nothing is declared. It takes no memory.
+    pub(crate) fn new(alloc: Global) -> Declared
+        ensures { result ≡ nothing_declared }
+    {
+        Declared {
+            alloc,
+            inputs: List::new(alloc),
+            outputs: List::new(alloc),
+            components: List::new(alloc),
+            places: IndexMap::new(alloc),
+        }
+    }
+
+    /// What the name stands for.
+    #[tactic(auto, using(crate::proofs::NameFacts::lookup_place))]
+    pub(crate) fn find(&self, name: &[u8]) -> Option<Place>
+        ensures { result ≡ place_of self.now name.now }
+    {
+        self.places.get(name).copied()
+    }
+
+    fn with_input(self, name: &[u8], kind: ValueType) -> Result<Declared, OutOfMemory>
+        requires { place_of self name.now ≡ None }
+        ensures { IfOk result (λ d. d ≡ with_part self name.now (Part.Input kind)) }
+    {
+        let Declared {
+            alloc,
+            mut inputs,
+            outputs,
+            components,
+            places,
+        } = self;
+        let number = inputs.items().len();
+        let places = add_name(alloc, places, name, Place::Input(number))?;
+        inputs.push(column(alloc, name, kind)?)?;
+        Ok(Declared {
+            alloc,
+            inputs,
+            outputs,
+            components,
+            places,
+        })
+    }
+
+    fn with_output(self, name: &[u8], kind: ValueType) -> Result<Declared, OutOfMemory>
+        requires { place_of self name.now ≡ None }
+        ensures { IfOk result (λ d. d ≡ with_part self name.now (Part.Output kind)) }
+    {
+        let Declared {
+            alloc,
+            inputs,
+            mut outputs,
+            components,
+            places,
+        } = self;
+        let number = outputs.items().len();
+        let places = add_name(alloc, places, name, Place::Output(number))?;
+        outputs.push(column(alloc, name, kind)?)?;
+        Ok(Declared {
+            alloc,
+            inputs,
+            outputs,
+            components,
+            places,
+        })
+    }
+
+    fn with_component(self, name: &[u8], kind: Kind) -> Result<Declared, OutOfMemory>
+        requires free { place_of self name.now ≡ None }
+        requires simple { spec.is_simple (Part.Component kind) ≡ true }
+        ensures { IfOk result (λ d. d ≡ with_part self name.now (Part.Component kind)) }
+    {
+        let Declared {
+            alloc,
+            inputs,
+            outputs,
+            mut components,
+            places,
+        } = self;
+        let number = components.items().len();
+        let places = add_name(alloc, places, name, Place::Component(number))?;
+        let name = copy(alloc, name)?;
+        components.push(Component { name, kind })?;
+        Ok(Declared {
+            alloc,
+            inputs,
+            outputs,
+            components,
+            places,
+        })
+    }
+
+    fn with_part(self, name: &[u8], part: Part) -> Result<Declared, OutOfMemory>
+        requires free { place_of self name.now ≡ None }
+        requires simple { spec.is_simple part ≡ true }
+        ensures { IfOk result (λ d. d ≡ with_part self name.now part) }
+    {
+        match part {
+            Part::Input(kind) => self.with_input(name, kind),
+            Part::Output(kind) => self.with_output(name, kind),
+            Part::Component(kind) => self.with_component(name, kind),
+        }
+    }
+
+    /// The own inputs, lent.
+    pub(crate) fn inputs(&self) -> &List<Column>
+        ensures { result.now ≡ self.now.inputs }
+    {
+        &self.inputs
+    }
+
+    /// The own outputs, lent.
+    pub(crate) fn outputs(&self) -> &List<Column>
+        ensures { result.now ≡ self.now.outputs }
+    {
+        &self.outputs
+    }
+
+    /// The components, lent.
+    pub(crate) fn components(&self) -> &[Component]
+        ensures components { result.now ≡ self.now.components }
+        ensures plain { Each (λ c. spec.is_simple (Part.Component c.kind) ≡ true) result.now }
+    {
+        self.components.items()
+    }
+
+    /// The kind of the component of that number.
+    pub(crate) fn kind(&self, number: usize) -> Option<Kind>
+        ensures kind { result ≡ option_map (λ c. c.kind) (slice_get self.now.components number) }
+        ensures plain { IfSome result (λ k. is_plain_kind k ≡ true) }
+    {
+        let components = self.components.items();
+        if number < components.len() {
+            Some(components[number].kind)
+        } else {
+            None
+        }
+    }
+
+    /// The allocator.
+    pub(crate) fn alloc(&self) -> Global {
+        self.alloc
+    }
+}
+
+// No word before it, no dimensions, no arguments and no condition.
+fn is_plain(item: &Item) -> bool
+    ensures { result ≡ spec.is_plain item.now }
+{
+    match item.prefix {
+        Prefix::Plain => {
+            item.dims.items().is_empty() && item.args.items().is_empty() && item.condition.is_none()
+        }
+        Prefix::Parameter | Prefix::Constant => false,
+    }
+}
+
+fn is_simple(part: Part) -> bool
+    ensures { result ≡ spec.is_simple part }
+{
+    match part {
+        Part::Component(kind) => is_plain_kind(kind),
+        Part::Input(_) | Part::Output(_) => true,
+    }
+}
+
+// The declarations with one more; None where it can't be declared.
+fn declare_part(
+    declared: Declared,
+    name: &[u8],
+    part: Part,
+) -> Result<Option<Declared>, OutOfMemory>
+    ensures { IfOk result (λ d. d ≡ spec.declare_part declared name.now part) }
+{
+    if !is_simple(part) || declared.find(name).is_some() {
+        return Ok(None);
+    }
+    let declared = declared.with_part(name, part)?;
+    Ok(Some(declared))
+}
+
+fn declare(
+    declared: Declared,
+    item: &Item,
+    part: Option<Part>,
+) -> Result<Option<Declared>, OutOfMemory>
+    ensures { IfOk result (λ d. d ≡ spec.declare declared item.now part) }
+{
+    if !is_plain(item) {
+        return Ok(None);
+    }
+    match part {
+        Some(part) => declare_part(declared, item.name.text.bytes(), part),
+        None => Ok(None),
+    }
+}
+
+/// The declarations of items, each of which is the part of that number; None where one of them can't be declared.
+pub(crate) fn declare_all(
+    alloc: Global,
+    items: &[Item],
+    parts: &[Option<Part>],
+) -> Result<Option<Declared>, OutOfMemory>
+    requires { length items.now ≡ length parts.now }
+    ensures { IfOk result (λ d. d ≡ spec.declare_all nothing_declared items.now parts.now) }
+{
+    let mut declared = Declared::new(alloc);
+    for (i, item) in items.iter().enumerate() {
+        match declare(declared, item, parts[i])? {
+            Some(next) => declared = next,
+            None => return Ok(None),
+        }
+    }
+    Ok(Some(declared))
+}
