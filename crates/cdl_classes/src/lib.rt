@@ -16,3 +16,6 @@ mod twice;
 
 pub use found::{ClassId, Found, ValueFound};
 pub use table::{ClassFault, ClassTable};
+
+#[cfg(test)]
+mod tests;
