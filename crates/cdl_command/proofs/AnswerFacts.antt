@@ -1,24 +1,18 @@
--- What stands on standard output once standard error was told.
-use Rattle.std.proofs.Common.{◌≡◌, ◌∙◌, ℕ, List, length, Option, Some, sym, ap, subst, inl, inr, arith}
-use Rattle.std.proofs.lemmas.List.{take_all}
-use Rattle.cdl_source.specs.Outside.{written_after}
-use Rattle.cdl_source.specs.Whole.{WritesSome}
+-- What stands once standard error was told.
+use Rattle.std.proofs.Common.{◌≡◌, ◌∙◌, ℕ, List, Option, Some, sym, subst, inl, inr}
 use Rattle.cdl_command.specs.Job.{Task}
-use Rattle.cdl_command.specs.Answer.{Contents, GrewBySome, OutAfter}
+use Rattle.cdl_command.specs.Texts.{Contents}
+use Rattle.cdl_command.specs.Answer.{GrewBySome, OutAfter}
 use Rattle.cdl_command.specs.Told.{Reports}
 use Rattle.cdl_command.specs.Top.{OutAfterWords}
 use Rattle.cdl_command.specs.declared.outcome.Outcome.{Outcome}
 use Rattle.cdl_command.specs.declared.outcome.Outcome.TheVariants.{Done, Refused, Usage, RangeFault, ReadFault, WriteFault, OutOfMemory}
 
--- all of a text is a front of it
-all_of : (old new : Option (List ℕ)) (text : List ℕ) → new ≡ written_after old text → WritesSome old new text
-all_of old new text e = (length text, omega arith, e ∙ ap (written_after old) (sym (take_all (length text) text (omega arith))))
-
 -- whatever was done, standard output grew by some of what is due to an answer
 grew : (task : Task) (contents : Contents) (due : Outcome) (old new : Option (List ℕ)) → OutAfter task contents due old new → GrewBySome task contents old new
-grew task contents Done old new o = inr (Done, o.0, o.1, all_of old new o.0 o.2)
+grew task contents Done old new o = inr (inr (Done, o))
 grew task contents (Refused rule spot) old new o = inl o.1
-grew task contents (RangeFault time path) old new o = inr (RangeFault time path, o.0, o.1, all_of old new o.0 o.2)
+grew task contents (RangeFault time path) old new o = inr (inr (RangeFault time path, o))
 grew task contents Usage old new o = absurd o
 grew task contents ReadFault old new o = inl o
 grew task contents WriteFault old new o = o

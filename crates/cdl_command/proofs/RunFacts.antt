@@ -1,192 +1,239 @@
 -- What each end of a run answers.
-use Rattle.std.proofs.Common.{◌≤◌, ◌≡◌, ◌∙◌, ◌+◌, ℕ, false, List, [], ◌∷◌, Option, None, Some, IfSome, refl, sym, ap, subst, inl, inr, arith}
-use Rattle.cdl_source.specs.Outside.{written_after}
-use Rattle.cdl_source.specs.Whole.{WritesSome}
-use Rattle.cdl_command.specs.Job.{RunOf}
+use Rattle.std.proofs.Common.{◌<◌, ◌≡◌, ◌⊎◌, ◌∙◌, ◌+◌, ℕ, List, [], length, take, slice_get, Option, None, Some, IfSome, refl, sym, ap, subst, inl, inr, arith}
+use Rattle.std.proofs.lemmas.Option.{slice_get_cases, slice_get_past, slice_get_within}
+use Rattle.cdl_source.specs.Place.{line_of, column_of}
+use Rattle.cdl_source.specs.declared.place.Place.{Place}
+use Rattle.cdl_tree.specs.declared.class.FileTree.{FileTree}
+use Rattle.cdl_classes.specs.Classes.{declared}
+use Rattle.cdl_flat.specs.Blocks.{Block}
+use Rattle.cdl_table.specs.declared.column.Column.{Column}
 use Rattle.cdl_table.specs.TableRow.{TableRow}
-use Rattle.cdl_command.specs.Tables.{IsTableText}
-use Rattle.cdl_command.specs.Model.{IsModel, IsNoModel}
-use Rattle.cdl_command.specs.Answer.{Contents, has_point, model_refused, AnswersRun, Answers, ModelFirst, NamesBroken}
-use Rattle.cdl_command.specs.Runs.{trace_text}
-use Rattle.cdl_command.specs.Solution.{IsTrace, wires_of}
-use Rattle.cdl_command.specs.Stops.{Stops, IsModelRead, IsModelRefused, IsTableRead, IsTableRefused, outcome_of_stop}
-use Rattle.cdl_command.specs.Top.{FewBegun, Works}
-use Rattle.cdl_command.specs.declared.run.Stop.{Stop}
-use Rattle.cdl_command.specs.declared.run.Stop.TheVariants as stop
-use Rattle.cdl_command.specs.declared.model.GateBlock.{GateBlock}
+use Rattle.cdl_command.specs.Job.{Task, RunOf}
+use Rattle.cdl_command.specs.Answer.{GrewBySome, OutAfter, IsAt, IsAtSpot, StandsIn}
+use Rattle.cdl_command.specs.Reads.{AreModels}
+use Rattle.cdl_command.specs.Roots.{IsFlatRoot}
+use Rattle.cdl_command.specs.Stops.{Stops, StopsInTexts, StopsAtClasses, RefusesText, RefusesClasses, RefusesRoot, RefusesBlock, RefusesTable, HasRoot, HasFlat, refusal_at, refusal_in, refusal_at_some, ended_of, plain_end}
+use Rattle.cdl_command.specs.Tables.{HoldsRows, BreaksTable}
+use Rattle.cdl_command.specs.Texts.{Contents, Holds, FirstHold, HaveTrees}
+use Rattle.cdl_command.specs.Ticks.{RunsRows, SomeOfTrace}
+use Rattle.cdl_command.specs.Top.{Works, BeginsInOrder}
+use Rattle.cdl_command.specs.Verdict.{Run, IsRunnable, Verdict, text_rule, class_rule, no_block, not_built, table_rule, ran, model, all_models, the_table}
 use Rattle.cdl_command.specs.declared.outcome.Outcome.{Outcome}
-use Rattle.cdl_command.specs.declared.outcome.Outcome.TheVariants.{Done, Refused, WriteFault, OutOfMemory}
+use Rattle.cdl_command.specs.declared.outcome.Outcome.TheVariants.{Done, Refused, Usage, RangeFault, ReadFault, WriteFault, OutOfMemory}
 use Rattle.cdl_command.specs.declared.outcome.Spot.{Spot}
-use Rattle.cdl_command.proofs.Solution.{tree_block, trace_is}
+use Rattle.cdl_command.specs.declared.outcome.Spot.TheVariants.{Source}
+use Rattle.cdl_command.specs.declared.root.Root.{Root}
+use Rattle.cdl_command.specs.declared.stop.Refusal.{Refusal}
+use Rattle.cdl_command.specs.declared.stop.Stop.{Stop}
+use Rattle.cdl_command.specs.declared.stop.Stop.TheVariants as stop
+use Rattle.cdl_command.specs.declared.texts.Models.{Models}
+use Rattle.cdl_command.proofs.ModelFacts.{as_many, file_of, held_at, hold_more}
+use Rattle.cdl_command.proofs.RootFacts.{all_read, root_is, runnable}
 
-model_answers : (class : List ℕ) (m t : Option (List ℕ)) → IfSome m (IsNoModel class) → IfSome m (λ b. AnswersRun class b t model_refused [])
-model_answers class None t none = tt
-model_answers class (Some bytes) t none =
-    record { no_model = λ _. (refl, refl); no_table = λ block is. absurd (none block is); done = λ block is. absurd (none block is) }
+abbrev task_of : Run → Task
+task_of run = RunOf run.class run.table run.models
 
-table_answers : (class : List ℕ) (m t : Option (List ℕ)) (block : GateBlock) (rule : ℕ) (spot : Spot) → IsModelRead class m block → IsTableRefused block.declared.inputs t rule spot
-    → IfSome m (λ b. AnswersRun class b t (Refused rule spot) [])
-table_answers class None t block rule spot read refused = tt
-table_answers class (Some bytes) None block rule spot read refused =
-    record { no_model = λ none. absurd (none block read.0); no_table = λ other is. tt; done = λ other is. tt }
-table_answers class (Some bytes) (Some table) block rule spot read refused =
-    record {
-      no_model = λ none. absurd (none block read.0);
-      no_table = λ other is. λ none. (
-        subst (λ o. NamesBroken o.declared.inputs table (Refused rule spot)) (sym (read.1 other is))
-            (record { rule = rule; spot = spot; first = refused.1; only = refused.2; outcome_is = refl }),
-        refl,
-      );
-      done = λ other is. λ rows ok. absurd (refused.0 rows (subst (λ o. IsTableText o.declared.inputs table rows) (read.1 other is) ok));
-    }
+-- ---- a stop before the ticks
 
--- the trace of a model over a table
-model_trace : (class bytes table : List ℕ) (block : GateBlock) (m : IsModel class bytes block) (rows : List TableRow) → IsTableText block.declared.inputs table rows
-    → IsTrace block.declared (wires_of m.tree) rows (trace_text block rows)
-model_trace class bytes table block m rows ok =
-    trace_is m.tree block rows (tree_block class m.tree block m.is_block) ok.1.rest ok.1.rows_are
+-- what a refusal leaves, where it is the verdict and its place is told right
+abbrev Refuses : Contents → Run → Refusal → Type 0
+Refuses contents run r = Verdict contents run (Refused r.rule r.spot) [] × IsAtSpot run.models contents r.spot r.line r.column
 
-done_answers : (class : List ℕ) (m t : Option (List ℕ)) (block : GateBlock) (rows : List TableRow) → IsModelRead class m block → IsTableRead block.declared.inputs t rows
-    → IfSome m (λ b. AnswersRun class b t Done (trace_text block rows))
-done_answers class None t block rows read found = tt
-done_answers class (Some bytes) None block rows read found =
-    record { no_model = λ none. absurd (none block read.0); no_table = λ other is. tt; done = λ other is. tt }
-done_answers class (Some bytes) (Some table) block rows read found =
-    record {
-      no_model = λ none. absurd (none block read.0);
-      no_table = λ other is. λ none. absurd (none rows (subst (λ o. IsTableText o.declared.inputs table rows) (sym (read.1 other is)) found.0));
-      done = λ other is. λ more ok.
-          let same : other ≡ block = read.1 other is in
-          let rows_same : more ≡ rows = found.1 more (subst (λ o. IsTableText o.declared.inputs table more) same ok) in
-          let text : trace_text other more ≡ trace_text block rows = ap (λ o. trace_text o more) same ∙ ap (trace_text block) rows_same in
-          (refl, subst (IsTrace other.declared (wires_of is.tree) more) text (model_trace class bytes table other is more ok));
-    }
+-- a stop with its cause, and the files that were begun in order, is the work of the run
+pub stopped : (contents : Contents) (run : Run) (before now : ℕ) (here rr wr : Type 0) (refuses : Refusal → Type 0) (s : Stop) (old : Option (List ℕ)) → (here → rr)
+    → ((r : Refusal) → refuses r → Refuses contents run r) → BeginsInOrder (task_of run) contents before now → Stops here refuses s
+    → Works (task_of run) contents before now rr wr (ended_of s) old old
+stopped contents run before now here rr wr refuses (stop.Refused r) old up answers begun cause =
+    let answer = answers r cause in
+    record { out = (answer.0, refl); at = answer.1; read = λ is. absurd (cc is); write = λ is. absurd (cc is); begun = begun }
+stopped contents run before now here rr wr refuses stop.ReadFault old up answers begun cause =
+    record { out = refl; at = tt; read = λ _. up cause; write = λ is. absurd (cc is); begun = begun }
+stopped contents run before now here rr wr refuses stop.OutOfMemory old up answers begun cause =
+    record { out = inl refl; at = tt; read = λ is. absurd (cc is); write = λ is. absurd (cc is); begun = begun }
 
--- the answer to a run of one model and a class of one identifier
-run_answers : (class table model : List ℕ) (contents : Contents) (outcome : Outcome) (text : List ℕ) → has_point class ≡ false
-    → IfSome (contents model) (λ m. AnswersRun class m (contents table) outcome text) → Answers (RunOf class table (model ∷ [])) contents outcome text
-run_answers class table model contents outcome text one answers = rw one answers
+-- the place of a text stands in its line and column, where the contents are told
+told_at : (o : Option (List ℕ)) (text : List ℕ) (byte : ℕ) → IfSome o (λ bytes. text ≡ bytes)
+    → IfSome o (λ bytes. StandsIn bytes byte (line_of (take byte text)) (column_of (take byte text)))
+told_at None text byte holds = tt
+told_at (Some bytes) text byte holds = (ap (λ b. line_of (take byte b)) holds, ap (λ b. column_of (take byte b)) holds)
 
--- the table was not begun yet
-first_early : (class table model : List ℕ) (contents : Contents) (before now : ℕ) → has_point class ≡ false → now ≡ before + 1 → ModelFirst (RunOf class table (model ∷ [])) contents before now
-first_early class table model contents before now one begun = rw one (λ two. absurd (omega arith))
+-- where the name of a number is known, so is what holds of it
+known : (P : List ℕ → Type 0) (o : Option (List ℕ)) (name : List ℕ) → o ≡ Some name → P name → IfSome o P
+known P None name is p = absurd (cc is)
+known P (Some n) name is p = let same : name ≡ n = cc is in subst P same p
 
--- the model and the table alone were begun
-few : (class table model : List ℕ) (before now : ℕ) → has_point class ≡ false → before ≤ now → now ≤ before + 2 → FewBegun (Some (RunOf class table (model ∷ []))) before now
-few class table model before now one later most = (later, rw one most)
+at_text : (contents : Contents) (names : List (List ℕ)) (rule : ℕ) (place : Place) (name text : List ℕ) → slice_get names place.file ≡ Some name → Holds contents name text
+    → IsAtSpot names contents (refusal_at rule place text).spot (refusal_at rule place text).line (refusal_at rule place text).column
+at_text contents names rule place name text is holds =
+    known (λ n. IfSome (contents n) (λ bytes. StandsIn bytes place.byte (line_of (take place.byte text)) (column_of (take place.byte text)))) (slice_get names place.file) name is
+    (told_at (contents name) text place.byte holds)
 
-is_told : (class : List ℕ) (m : Option (List ℕ)) (block : GateBlock) → IsModelRead class m block → IfSome m (λ bytes. (b : GateBlock) × IsModel class bytes b)
-is_told class None block read = tt
-is_told class (Some bytes) block read = (block, read.0)
+-- ---- a stop in the texts
 
--- the model is one
-first_late : (class table model : List ℕ) (contents : Contents) (before now : ℕ) (block : GateBlock) → has_point class ≡ false → IsModelRead class (contents model) block
-    → ModelFirst (RunOf class table (model ∷ [])) contents before now
-first_late class table model contents before now block one read = rw one (λ two. is_told class (contents model) block read)
-
-pub stopped_at_model : (class table model : List ℕ) (contents : Contents) (before now : ℕ) (rr wr : Type 0) (s : Stop) (old : Option (List ℕ)) → has_point class ≡ false → now ≡ before + 1
-    → Stops rr (IsModelRefused class (contents model)) s
-    → Works (RunOf class table (model ∷ [])) contents before now rr wr (outcome_of_stop s) old old
-stopped_at_model class table model contents before now rr wr (stop.Refused rule spot) old one begun refused =
-    record {
-      out = (
-        run_answers class table model contents (Refused rule spot) [] one
-            (subst (λ o. IfSome (contents model) (λ b. AnswersRun class b (contents table) o [])) (sym (ap (λ r. Refused r spot) refused.0 ∙ ap (Refused 9) refused.1))
-            (model_answers class (contents model) (contents table) refused.2)),
-        refl,
-      );
-      read = λ is. absurd (cc is);
-      write = λ is. absurd (cc is);
-      model_first = first_early class table model contents before now one begun;
-      begun = few class table model before now one (omega arith) (omega arith);
-    }
-stopped_at_model class table model contents before now rr wr stop.ReadFault old one begun rose =
-    record {
-      out = refl;
-      read = λ _. rose;
-      write = λ is. absurd (cc is);
-      model_first = first_early class table model contents before now one begun;
-      begun = few class table model before now one (omega arith) (omega arith);
-    }
-stopped_at_model class table model contents before now rr wr stop.OutOfMemory old one begun h =
-    record {
-      out = inl refl;
-      read = λ is. absurd (cc is);
-      write = λ is. absurd (cc is);
-      model_first = first_early class table model contents before now one begun;
-      begun = few class table model before now one (omega arith) (omega arith);
-    }
-
-pub stopped_at_table : (class table model : List ℕ) (contents mid : Contents) (before now : ℕ) (later rr wr : Type 0) (s : Stop) (block : GateBlock) (old : Option (List ℕ)) → has_point class ≡ false
-    → now ≡ before + 2 → mid ≡ contents → IsModelRead class (contents model) block → (later → rr) → Stops later (IsTableRefused block.declared.inputs (mid table)) s
-    → Works (RunOf class table (model ∷ [])) contents before now rr wr (outcome_of_stop s) old old
-stopped_at_table class table model contents mid before now later rr wr (stop.Refused rule spot) block old one begun same read up refused =
-    record {
-      out = (
-        run_answers class table model contents (Refused rule spot) [] one
-            (table_answers class (contents model) (contents table) block rule spot read (subst (λ k. IsTableRefused block.declared.inputs (k table) rule spot) same refused)),
-        refl,
-      );
-      read = λ is. absurd (cc is);
-      write = λ is. absurd (cc is);
-      model_first = first_late class table model contents before now block one read;
-      begun = few class table model before now one (omega arith) (omega arith);
-    }
-stopped_at_table class table model contents mid before now later rr wr stop.ReadFault block old one begun same read up rose =
-    record {
-      out = refl;
-      read = λ _. up rose;
-      write = λ is. absurd (cc is);
-      model_first = first_late class table model contents before now block one read;
-      begun = few class table model before now one (omega arith) (omega arith);
-    }
-stopped_at_table class table model contents mid before now later rr wr stop.OutOfMemory block old one begun same read up h =
-    record {
-      out = inl refl;
-      read = λ is. absurd (cc is);
-      write = λ is. absurd (cc is);
-      model_first = first_late class table model contents before now block one read;
-      begun = few class table model before now one (omega arith) (omega arith);
-    }
-
-pub run_is_done : (class table model : List ℕ) (contents mid : Contents) (before now : ℕ) (rr wr : Type 0) (block : GateBlock) (rows : List TableRow) (old new : Option (List ℕ)) → has_point class ≡ false
-    → now ≡ before + 2 → mid ≡ contents → IsModelRead class (contents model) block → IsTableRead block.declared.inputs (mid table) rows
-    → new ≡ written_after old (trace_text block rows)
-    → Works (RunOf class table (model ∷ [])) contents before now rr wr Done old new
-run_is_done class table model contents mid before now rr wr block rows old new one begun same read found written =
-    record {
-      out = (
-        trace_text block rows,
-        run_answers class table model contents Done (trace_text block rows) one
-            (done_answers class (contents model) (contents table) block rows read (subst (λ k. IsTableRead block.declared.inputs (k table) rows) same found)),
-        written,
-      );
-      read = λ is. absurd (cc is);
-      write = λ is. absurd (cc is);
-      model_first = first_late class table model contents before now block one read;
-      begun = few class table model before now one (omega arith) (omega arith);
-    }
-
-pub run_is_cut : (class table model : List ℕ) (contents mid : Contents) (before now : ℕ) (rr wr : Type 0) (block : GateBlock) (rows : List TableRow) (old new : Option (List ℕ)) → has_point class ≡ false
-    → now ≡ before + 2 → mid ≡ contents → IsModelRead class (contents model) block → IsTableRead block.declared.inputs (mid table) rows
-    → WritesSome old new (trace_text block rows)
-    → (wr → Works (RunOf class table (model ∷ [])) contents before now rr wr WriteFault old new)
-    × Works (RunOf class table (model ∷ [])) contents before now rr wr OutOfMemory old new
-run_is_cut class table model contents mid before now rr wr block rows old new one begun same read found written =
-    let answers : Answers (RunOf class table (model ∷ [])) contents Done (trace_text block rows) = run_answers class table model contents Done (trace_text block rows) one
-    (done_answers class (contents model) (contents table) block rows read (subst (λ k. IsTableRead block.declared.inputs (k table) rows) same found)) in (
-      λ rose. record {
-        out = inr (Done, trace_text block rows, answers, written);
-        read = λ is. absurd (cc is);
-        write = λ _. rose;
-        model_first = first_late class table model contents before now block one read;
-        begun = few class table model before now one (omega arith) (omega arith);
-      },
-      record {
-        out = inr (Done, trace_text block rows, answers, written);
-        read = λ is. absurd (cc is);
-        write = λ is. absurd (cc is);
-        model_first = first_late class table model contents before now block one read;
-        begun = few class table model before now one (omega arith) (omega arith);
-      },
+refused_text : (contents : Contents) (run : Run) (texts : List (List ℕ)) (trees : List FileTree) (name : List ℕ) → FirstHold contents run.models texts → HaveTrees texts trees
+    → slice_get run.models (length texts) ≡ Some name → (r : Refusal) → RefusesText contents name (length texts) r → Refuses contents run r
+refused_text contents run texts trees name hold have is r refuses =
+    let here : slice_get run.models refuses.place.file ≡ Some name = ap (slice_get run.models) (file_of (length texts) refuses.text refuses.rule refuses.place refuses.broken) ∙ is in
+    subst (Refuses contents run) (sym refuses.refusal_is) (
+      text_rule texts trees refuses.text (hold_more contents run.models texts name refuses.text hold is refuses.holds) have refuses.broken,
+      at_text contents run.models refuses.rule refuses.place name refuses.text here refuses.holds,
     )
+
+begun_in_texts : (contents : Contents) (run : Run) (before now : ℕ) (texts : List (List ℕ)) (trees : List FileTree) (name : List ℕ) → FirstHold contents run.models texts → HaveTrees texts trees
+    → slice_get run.models (length texts) ≡ Some name → now ≡ before + length texts + 1 → BeginsInOrder (task_of run) contents before now
+begun_in_texts contents run before now texts trees name hold have is begun =
+    let many : length trees ≡ length texts = as_many texts trees have in
+    let within : length texts < length run.models = slice_get_within run.models (length texts) name is in (
+      length trees + 1,
+      omega (arith, begun, many),
+      model trees (record { texts = texts; hold = hold; have = have }) (omega (arith, many, within)),
+    )
+
+pub stopped_in_texts : (contents : Contents) (run : Run) (before now : ℕ) (rr wr : Type 0) (s : Stop) (old : Option (List ℕ)) → StopsInTexts contents run.models before now rr s
+    → Works (task_of run) contents before now rr wr (ended_of s) old old
+stopped_in_texts contents run before now rr wr s old h =
+    stopped contents run before now rr rr wr (RefusesText contents h.name (length h.texts)) s old (λ r. r)
+    (refused_text contents run h.texts h.trees h.name h.hold h.have h.name_is)
+    (begun_in_texts contents run before now h.texts h.trees h.name h.hold h.have h.name_is h.begun) h.cause
+
+-- ---- a stop at the classes and at the block
+
+-- where there is no text of a number, there is no name of it
+no_name : (names texts : List (List ℕ)) (k : ℕ) (P : List ℕ → Type 0) → length texts ≡ length names → slice_get texts k ≡ None → IfSome (slice_get names k) P
+no_name names texts k P all is = elim (slice_get_cases texts k).1 [
+  | inl there ↦ absurd (cc (is, there.2))
+  | inr past ↦ subst (λ o. IfSome o P) (sym (slice_get_past names k (omega (arith, past.0, all)))) tt
+]
+
+at_some : (contents : Contents) (names texts : List (List ℕ)) (rule : ℕ) (place : Place) (o : Option (List ℕ)) → slice_get texts place.file ≡ o → FirstHold contents names texts
+    → length texts ≡ length names
+    → IsAtSpot names contents (refusal_at_some rule place o).spot (refusal_at_some rule place o).line (refusal_at_some rule place o).column
+at_some contents names texts rule place (Some text) is hold all =
+    let held = held_at contents names texts place.file text hold is in
+    at_text contents names rule place held.0 text held.1 held.2
+at_some contents names texts rule place None is hold all =
+    no_name names texts place.file (λ name. IfSome (contents name) (λ bytes. StandsIn bytes place.byte 1 1)) all is
+
+spot_of : (rule : ℕ) (place : Place) (o : Option (List ℕ)) → ((refusal_at_some rule place o).rule ≡ rule) × ((refusal_at_some rule place o).spot ≡ Source place)
+spot_of rule place (Some text) = (refl, refl)
+spot_of rule place None = (refl, refl)
+
+refused_class : (contents : Contents) (run : Run) (models : Models) → AreModels contents run.models models → (r : Refusal) → RefusesClasses models.texts models.trees r → Refuses contents run r
+refused_class contents run models m r refuses =
+    let o = slice_get models.texts refuses.place.file in
+    let of = spot_of refuses.rule refuses.place o in
+    let verdict : Verdict contents run (Refused refuses.rule (Source refuses.place)) [] = class_rule models.trees (all_read contents run.models models m) refuses.broken in
+    subst (Refuses contents run) (sym refuses.refusal_is) (
+      subst (λ s. Verdict contents run (Refused (refusal_in refuses.rule refuses.place models.texts).rule s) []) (sym of.1)
+          (subst (λ n. Verdict contents run (Refused n (Source refuses.place)) []) (sym of.0) verdict),
+      at_some contents run.models models.texts refuses.rule refuses.place o refl m.hold m.all,
+    )
+
+refused_root : (contents : Contents) (run : Run) (models : Models) → AreModels contents run.models models → (r : Refusal) → RefusesRoot run.class models.trees r → Refuses contents run r
+refused_root contents run models m r refuses =
+    subst (Refuses contents run) (sym refuses.2) (no_block models.trees (all_read contents run.models models m) refuses.0 refuses.1, tt)
+
+pub all_begun : (contents : Contents) (run : Run) (before now : ℕ) (models : Models) → AreModels contents run.models models → now ≡ before + length run.models
+    → BeginsInOrder (task_of run) contents before now
+all_begun contents run before now models m begun = (length run.models, begun, all_models models.trees (all_read contents run.models models m))
+
+at_classes : (contents : Contents) (run : Run) (models : Models) → AreModels contents run.models models → (r : Refusal)
+    → RefusesClasses models.texts models.trees r ⊎ RefusesRoot run.class models.trees r → Refuses contents run r
+at_classes contents run models m r (inl refuses) = refused_class contents run models m r refuses
+at_classes contents run models m r (inr refuses) = refused_root contents run models m r refuses
+
+pub stopped_at_classes : (contents : Contents) (run : Run) (before now : ℕ) (rr wr : Type 0) (s : Stop) (models : Models) (old : Option (List ℕ)) → AreModels contents run.models models
+    → now ≡ before + length run.models → StopsAtClasses run.class models.texts models.trees s → Works (task_of run) contents before now rr wr (ended_of s) old old
+stopped_at_classes contents run before now rr wr s models old m begun cause =
+    stopped contents run before now ⊥ rr wr (λ r. RefusesClasses models.texts models.trees r ⊎ RefusesRoot run.class models.trees r) s old (λ none. absurd none)
+    (at_classes contents run models m) (all_begun contents run before now models m begun) cause
+
+refused_block : (contents : Contents) (run : Run) (models : Models) (root : Root) → AreModels contents run.models models → HasRoot run.class models.trees root → (r : Refusal) → RefusesBlock root r
+    → Refuses contents run r
+refused_block contents run models root m h r refuses =
+    subst (Refuses contents run) (sym refuses.refusal_is) (
+      not_built models.trees root.id refuses.tree (all_read contents run.models models m) (root_is run.class models.trees root refuses.tree h refuses.tree_is)
+          (subst (λ t. IsFlatRoot (declared t) root.id refuses.tree → ⊥) h.classes refuses.not_flat),
+      tt,
+    )
+
+pub stopped_at_block : (contents : Contents) (run : Run) (before now : ℕ) (rr wr : Type 0) (s : Stop) (models : Models) (root : Root) (old : Option (List ℕ)) → AreModels contents run.models models
+    → HasRoot run.class models.trees root → now ≡ before + length run.models → Stops ⊥ (RefusesBlock root) s → Works (task_of run) contents before now rr wr (ended_of s) old old
+stopped_at_block contents run before now rr wr s models root old m h begun cause =
+    stopped contents run before now ⊥ rr wr (RefusesBlock root) s old (λ none. absurd none)
+    (refused_block contents run models root m h) (all_begun contents run before now models m begun) cause
+
+-- ---- a stop at the table
+
+table_begun : (contents : Contents) (run : Run) (before mid now : ℕ) (block : Block) → IsRunnable contents run block → mid ≡ before + length run.models → now ≡ mid + 1
+    → BeginsInOrder (task_of run) contents before now
+table_begun contents run before mid now block runs models table = (length run.models + 1, omega (arith, models, table), the_table block runs)
+
+-- a spot of no text has no line
+no_line : (contents : Contents) (names : List (List ℕ)) (inputs : List Column) (bytes : List ℕ) (rule : ℕ) (spot : Spot) → BreaksTable inputs bytes rule spot → IsAtSpot names contents spot 1 1
+no_line contents names inputs bytes rule spot broken = elim broken.first [
+  | inl long ↦ subst (λ s. IsAtSpot names contents s 1 1) (sym long.2) tt
+  | inr cell ↦ subst (λ s. IsAtSpot names contents s 1 1) (sym cell.spot_is) tt
+]
+
+refused_table : (contents : Contents) (run : Run) (block : Block) → IsRunnable contents run block → (r : Refusal) → RefusesTable contents run.table block.declared.inputs r → Refuses contents run r
+refused_table contents run block runs r refuses =
+    subst (Refuses contents run) (sym refuses.refusal_is) (
+      table_rule block refuses.bytes runs refuses.holds refuses.broken,
+      no_line contents run.models block.declared.inputs refuses.bytes refuses.rule refuses.spot refuses.broken,
+    )
+
+-- what is known after the models was known of the same contents
+abbrev AtTable : Run → Block → Stop → Type 0 → Contents → Type 0
+AtTable run block s here contents = Stops here (RefusesTable contents run.table block.declared.inputs) s
+
+pub stopped_at_table : (contents kept : Contents) (run : Run) (before mid now : ℕ) (here rr wr : Type 0) (s : Stop) (models : Models) (root : Root) (block : Block) (old : Option (List ℕ))
+    → AreModels contents run.models models → HasRoot run.class models.trees root → HasFlat root block → mid ≡ before + length run.models → now ≡ mid + 1 → kept ≡ contents → (here → rr)
+    → AtTable run block s here kept → Works (task_of run) contents before now rr wr (ended_of s) old old
+stopped_at_table contents kept run before mid now here rr wr s models root block old m h f begun table same up cause =
+    let runs = runnable contents run models root block m h f in
+    stopped contents run before now here rr wr (RefusesTable contents run.table block.declared.inputs) s old up
+    (refused_table contents run block runs) (table_begun contents run before mid now block runs begun table) (subst (AtTable run block s here) same cause)
+
+-- ---- the ticks
+
+some_ticks : (contents : Contents) (run : Run) (block : Block) (rows : List TableRow) (old new : Option (List ℕ)) → IsRunnable contents run block
+    → HoldsRows contents run.table block.declared.inputs rows → SomeOfTrace block rows old new → GrewBySome (task_of run) contents old new
+some_ticks contents run block rows old new runs table (inl same) = inl same
+some_ticks contents run block rows old new runs table (inr front) = inr (inl (record { block = block; rows = rows; runnable = runs; table = table; front = front }))
+
+out_after : (contents : Contents) (run : Run) (block : Block) (rows : List TableRow) (old new : Option (List ℕ)) (wr : Type 0) (o : Outcome) → IsRunnable contents run block
+    → HoldsRows contents run.table block.declared.inputs rows → RunsRows block rows old new wr o → OutAfter (task_of run) contents o old new
+out_after contents run block rows old new wr Done runs table r = (r.0, ran block rows runs table r.1, r.2)
+out_after contents run block rows old new wr (RangeFault time path) runs table r = (r.0, ran block rows runs table r.1, r.2)
+out_after contents run block rows old new wr WriteFault runs table r = some_ticks contents run block rows old new runs table r.1
+out_after contents run block rows old new wr OutOfMemory runs table r = some_ticks contents run block rows old new runs table r
+out_after contents run block rows old new wr (Refused rule spot) runs table r = absurd r
+out_after contents run block rows old new wr Usage runs table r = absurd r
+out_after contents run block rows old new wr ReadFault runs table r = absurd r
+
+-- the ticks end with no place and with no read fault
+no_place : (task : Task) (contents : Contents) (block : Block) (rows : List TableRow) (old new : Option (List ℕ)) (wr : Type 0) (o : Outcome) → RunsRows block rows old new wr o
+    → IsAt task contents o 1 1 × (o ≡ ReadFault → ⊥) × (o ≡ WriteFault → wr)
+no_place task contents block rows old new wr Done r = (tt, (λ is. absurd (cc is)), (λ is. absurd (cc is)))
+no_place task contents block rows old new wr (RangeFault time path) r = (tt, (λ is. absurd (cc is)), (λ is. absurd (cc is)))
+no_place task contents block rows old new wr WriteFault r = (tt, (λ is. absurd (cc is)), (λ is. r.0))
+no_place task contents block rows old new wr OutOfMemory r = (tt, (λ is. absurd (cc is)), (λ is. absurd (cc is)))
+no_place task contents block rows old new wr (Refused rule spot) r = absurd r
+no_place task contents block rows old new wr Usage r = absurd r
+no_place task contents block rows old new wr ReadFault r = absurd r
+
+pub runs_ticks : (contents kept : Contents) (run : Run) (before mid now : ℕ) (rr wr : Type 0) (models : Models) (root : Root) (block : Block) (rows : List TableRow) (old new : Option (List ℕ))
+    (o : Outcome) → AreModels contents run.models models → HasRoot run.class models.trees root → HasFlat root block → mid ≡ before + length run.models → now ≡ mid + 1 → kept ≡ contents
+    → HoldsRows kept run.table block.declared.inputs rows → RunsRows block rows old new wr o → Works (task_of run) contents before now rr wr (plain_end o) old new
+runs_ticks contents kept run before mid now rr wr models root block rows old new o m h f begun table same held r =
+    let runs = runnable contents run models root block m h f in
+    let has : HoldsRows contents run.table block.declared.inputs rows = subst (λ c. HoldsRows c run.table block.declared.inputs rows) same held in
+    let rest = no_place (task_of run) contents block rows old new wr o r in
+    record {
+      out = out_after contents run block rows old new wr o runs has r;
+      at = rest.0;
+      read = λ is. absurd (rest.1 is);
+      write = rest.2;
+      begun = table_begun contents run before mid now block runs begun table;
+    }

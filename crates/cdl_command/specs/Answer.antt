@@ -1,69 +1,34 @@
--- What a job answers to the contents of the names.
-use Rattle.std.specs.Prelude.{◌≡◌, ◌⊎◌, ℕ, ◌+◌, ◌==◌, Bool, List, [], ◌∷◌, Option, Some, None, IfSome, MatchOption, if◌then◌else◌, codes, ⊤}
-use Rattle.std.specs.List.{list_any}
+-- What a job answers to the contents of the names, and what it leaves on standard output.
+use Rattle.std.specs.Prelude.{◌≡◌, ◌⊎◌, ℕ, List, [], Option, Some, None, IfSome, MatchOption, slice_get, take, ⊤}
 use Rattle.std.specs.Option.{ForSome}
 use Rattle.cdl_source.specs.Outside.{written_after, DueBeginsWith}
-use Rattle.cdl_source.specs.Whole.{WritesSome}
+use Rattle.cdl_source.specs.Place.{line_of, column_of}
+use Rattle.cdl_flat.specs.Blocks.{Block}
 use Rattle.cdl_table.specs.TableRow.{TableRow}
 use Rattle.cdl_command.specs.Job.{Task, RunOf}
-use Rattle.cdl_command.specs.Outcome.{files_of}
-use Rattle.cdl_command.specs.Tables.{IsTableText, IsNoTableText, BreaksFirst, IsOnlyFirst}
-use Rattle.cdl_command.specs.Model.{IsModel, IsNoModel}
-use Rattle.cdl_command.specs.Solution.{IsTrace, wires_of}
-use Rattle.cdl_command.specs.declared.model.GateBlock.{GateBlock}
+use Rattle.cdl_command.specs.Outcome.{files_of, models_of}
+use Rattle.cdl_command.specs.Texts.{Contents}
+use Rattle.cdl_command.specs.Tables.{HoldsRows}
+use Rattle.cdl_command.specs.Runs.{IsFront}
+use Rattle.cdl_command.specs.Verdict.{Run, IsRunnable, Verdict, root_path}
 use Rattle.cdl_command.specs.declared.outcome.Outcome.{Outcome}
 use Rattle.cdl_command.specs.declared.outcome.Outcome.TheVariants.{Done, Refused, Usage, RangeFault, ReadFault, WriteFault, OutOfMemory}
 use Rattle.cdl_command.specs.declared.outcome.Spot.{Spot}
-use Rattle.cdl_command.specs.declared.outcome.Spot.TheVariants.{Source, Path}
+use Rattle.cdl_command.specs.declared.outcome.Spot.TheVariants.{Source}
 
--- the contents of each name, where they are told
-abbrev pub Contents : Type 0
-Contents = List ℕ → Option (List ℕ)
+-- The verb `run` is built, and no other.
+abbrev pub built : Task → Option Run
+built (RunOf class table models) = Some (record { class = class; table = table; models = models })
+built _ = None
 
--- a run that is built: one model, and a class of one identifier
-pub record GateRun : Type 0 where
-  pub class : List ℕ
-  pub table : List ℕ
-  pub model : List ℕ
-
--- The class name has more than one identifier.
-abbrev pub has_point : List ℕ → Bool
-has_point class = list_any (λ c. c == 46) class
-
-abbrev pub gate_run : Task → Option GateRun
-gate_run (RunOf class table (model ∷ [])) =
-    if has_point class then None else Some (record { class = class; table = table; model = model })
-gate_run _ = None
-
--- what is not built: a job of another form, and a model that is no block of gates
+-- what a job of another verb is answered
 abbrev pub job_refused : Outcome
-job_refused = Refused 9 (Path (codes "#"))
+job_refused = Refused 9 root_path
 
-abbrev pub model_refused : Outcome
-model_refused = Refused 9 (Source (record { file = 0; byte = 0 }))
-
--- The outcome names the first rule of tables that the text breaks.
-pub record NamesBroken (inputs : List (List ℕ)) (bytes : List ℕ) (outcome : Outcome) : Type 0 where
-  pub rule : ℕ
-  pub spot : Spot
-  pub first : BreaksFirst inputs bytes rule spot
-  pub only : IsOnlyFirst inputs bytes rule spot
-  pub outcome_is : outcome ≡ Refused rule spot
-
--- What a run answers to the bytes of its model, and to those of its table, where they are told: the outcome, and the text
--- on standard output. The model is looked at first. A trace is told by the equations that the model's statements are.
-pub record AnswersRun (class model : List ℕ) (table : Option (List ℕ)) (outcome : Outcome) (text : List ℕ) : Type 0 where
-  pub no_model : IsNoModel class model → (outcome ≡ model_refused) × (text ≡ [])
-  pub no_table : (block : GateBlock) → IsModel class model block
-      → IfSome table (λ bytes. IsNoTableText block.declared.inputs bytes → NamesBroken block.declared.inputs bytes outcome × (text ≡ []))
-  pub done : (block : GateBlock) (m : IsModel class model block)
-      → IfSome table (λ bytes. (rows : List TableRow) → IsTableText block.declared.inputs bytes rows → (outcome ≡ Done) × IsTrace block.declared (wires_of m.tree) rows text)
-
--- the answer to a job, where the contents that it looks at are told
+-- the answer to a job: the outcome, and the text on standard output
 abbrev pub Answers : Task → Contents → Outcome → List ℕ → Type 0
 Answers task contents outcome text =
-    MatchOption (gate_run task) ((outcome ≡ job_refused) × (text ≡ []))
-    (λ r. IfSome (contents r.model) (λ model. AnswersRun r.class model (contents r.table) outcome text))
+    MatchOption (built task) ((outcome ≡ job_refused) × (text ≡ [])) (λ run. Verdict contents run outcome text)
 
 -- The outcome is the answer to the words, and standard output grew by its text. Words that are no job have no answer but that.
 abbrev pub Result : Option Task → Contents → Outcome → Option (List ℕ) → Option (List ℕ) → Type 0
@@ -74,23 +39,43 @@ Result task contents outcome old new =
 abbrev pub DueOf : Option (List (List ℕ)) → Option Task → Type 0
 DueOf due task = MatchOption due ⊤ (λ _. ForSome task (λ t. DueBeginsWith due (files_of t)))
 
--- standard output is as before, or grew by the front of the text that is due to an answer
+-- Standard output grew by a front of what the ticks of a run print.
+pub record GrewByTicks (contents : Contents) (run : Run) (old new : Option (List ℕ)) : Type 0 where
+  pub block : Block
+  pub rows : List TableRow
+  pub runnable : IsRunnable contents run block
+  pub table : HoldsRows contents run.table block.declared.inputs rows
+  pub front : IsFront block rows old new
+
+-- standard output grew by the text of an answer with this outcome
+abbrev pub GrewByAnswer : Task → Contents → Outcome → Option (List ℕ) → Option (List ℕ) → Type 0
+GrewByAnswer task contents outcome old new = (text : List ℕ) × Answers task contents outcome text × (new ≡ written_after old text)
+
+-- standard output is as before, or grew by a front of what is due, or by all of it
 abbrev pub GrewBySome : Task → Contents → Option (List ℕ) → Option (List ℕ) → Type 0
 GrewBySome task contents old new =
-    (new ≡ old) ⊎ ((outcome : Outcome) × (text : List ℕ) × Answers task contents outcome text × WritesSome old new text)
+    (new ≡ old) ⊎ (MatchOption (built task) ⊥ (λ run. GrewByTicks contents run old new) ⊎ ((outcome : Outcome) × GrewByAnswer task contents outcome old new))
 
 -- What stands on standard output after the work of a job.
 abbrev pub OutAfter : Task → Contents → Outcome → Option (List ℕ) → Option (List ℕ) → Type 0
-OutAfter task contents Done old new = (text : List ℕ) × Answers task contents Done text × (new ≡ written_after old text)
+OutAfter task contents Done old new = GrewByAnswer task contents Done old new
+OutAfter task contents (RangeFault time path) old new = GrewByAnswer task contents (RangeFault time path) old new
 OutAfter task contents (Refused rule spot) old new = Answers task contents (Refused rule spot) [] × (new ≡ old)
-OutAfter task contents (RangeFault time path) old new =
-    (text : List ℕ) × Answers task contents (RangeFault time path) text × (new ≡ written_after old text)
 OutAfter task contents Usage old new = ⊥
 OutAfter task contents ReadFault old new = new ≡ old
 OutAfter task contents WriteFault old new = GrewBySome task contents old new
 OutAfter task contents OutOfMemory old new = GrewBySome task contents old new
 
--- Where the table was begun, the model was read, and is one where it is told.
-abbrev pub ModelFirst : Task → Contents → ℕ → ℕ → Type 0
-ModelFirst task contents before now =
-    MatchOption (gate_run task) ⊤ (λ r. now ≡ before + 2 → IfSome (contents r.model) (λ model. (block : GateBlock) × IsModel r.class model block))
+-- The byte of that number stands in this line and column of the text, both counted from 1.
+abbrev pub StandsIn : List ℕ → ℕ → ℕ → ℕ → Type 0
+StandsIn text byte line column = (line ≡ line_of (take byte text)) × (column ≡ column_of (take byte text))
+
+-- the same of a spot in one of the models, where its contents are told
+abbrev pub IsAtSpot : List (List ℕ) → Contents → Spot → ℕ → ℕ → Type 0
+IsAtSpot models contents (Source place) line column =
+    IfSome (slice_get models place.file) (λ name. IfSome (contents name) (λ text. StandsIn text place.byte line column))
+IsAtSpot models contents _ line column = Unit {0}
+
+abbrev pub IsAt : Task → Contents → Outcome → ℕ → ℕ → Type 0
+IsAt task contents (Refused rule spot) line column = IsAtSpot (models_of task) contents spot line column
+IsAt task contents _ line column = Unit {0}

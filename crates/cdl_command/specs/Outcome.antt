@@ -1,7 +1,8 @@
 -- What each outcome is told by: the exit code, and the text on standard error.
-use Rattle.std.specs.Prelude.{ℕ, ℤ, ◌==◌, nat_lt, List, [], ◌∷◌, ◌++◌, if◌then◌else◌, codes, decimal, get_or}
+use Rattle.std.specs.Prelude.{ℕ, ℤ, ◌==◌, ◌≤◌, nat_lt, length, List, [], ◌∷◌, ◌++◌, if◌then◌else◌, codes, decimal, get_or}
 use Rattle.std.specs.Fmt.{signed_decimal}
-use Rattle.cdl_command.specs.Job.{Task, CheckOf, RunOf, CxfOf, CheckCxfOf, RunCxfOf, SampleOf}
+use Rattle.cdl_command.specs.declared.job.Job.{Job}
+use Rattle.cdl_command.specs.Job.{Task, task_of_job, CheckOf, RunOf, CxfOf, CheckCxfOf, RunCxfOf, SampleOf}
 use Rattle.cdl_command.specs.declared.outcome.Outcome.{Outcome}
 use Rattle.cdl_command.specs.declared.outcome.Outcome.TheVariants.{Done, Refused, Usage, RangeFault, ReadFault, WriteFault, OutOfMemory}
 use Rattle.cdl_command.specs.declared.outcome.Spot.{Spot}
@@ -22,6 +23,10 @@ models_of (CheckOf class models) = models
 models_of (RunOf class table models) = models
 models_of (CxfOf class models) = models
 models_of _ = []
+
+-- a job has at most 64 models
+abbrev pub HasFewModels : Job → Type 0
+HasFewModels job = length (models_of (task_of_job job)) ≤ 64
 
 abbrev pub table_of : Task → List ℕ
 table_of (RunOf class table models) = table
@@ -45,7 +50,20 @@ files_of (SampleOf n) = []
 -- the text of each rule
 abbrev pub rule_text : ℕ → List ℕ
 rule_text rule =
-    if rule == 9 then codes "not built yet"
+    if rule == 1 then codes "model file too long"
+    else if rule == 2 then codes "not UTF-8"
+    else if rule == 3 then codes "no token here"
+    else if rule == 4 then codes "literal or identifier past its limits"
+    else if rule == 5 then codes "nested too deeply"
+    else if rule == 6 then codes "expression too long"
+    else if rule == 7 then codes "syntax"
+    else if rule == 8 then codes "wrong name after end"
+    else if rule == 9 then codes "not built yet"
+    else if rule == 10 then codes "name declared twice"
+    else if rule == 11 then codes "name not free"
+    else if rule == 12 then codes "name not found"
+    else if rule == 13 then codes "not supported here"
+    else if rule == 14 then codes "no such block"
     else if rule == 60 then codes "table too long"
     else if rule == 61 then codes "wrong number of fields"
     else if rule == 62 then codes "wrong header"

@@ -1,6 +1,7 @@
 // The words of the command line.
-ghost use Rattle.std.specs.Prelude.{◌≡◌, ◌+◌, ◌-◌, ◌*◌, ◌^◌, ◌<◌, map, string_bytes};
+ghost use Rattle.std.specs.Prelude.{◌≡◌, ◌+◌, ◌-◌, ◌*◌, ◌^◌, ◌<◌, map, string_bytes, IfSome};
 ghost use Rattle.std.specs.Option.{option_map};
+ghost use Rattle.cdl_command.specs.Outcome.{HasFewModels};
 ghost use Rattle.cdl_lex.specs.Spellings as spec;
 ghost use Rattle.cdl_command.specs.Job.{is_identifier, is_class_name, is_file_name, are_models, sample_size, task_of, check_of, run_of, cxf_of, check_cxf_of, run_cxf_of, sample_of, task_of_job};
 
@@ -46,7 +47,8 @@ pub enum Job<'a> {
 
 /// The job of these words, the ones after the program's name; None exactly where they are no job. It takes no memory.
 pub fn words(words: &[String]) -> Option<Job<'_>>
-    ensures { option_map task_of_job result ≡ task_of (map string_bytes words.now) }
+    ensures task { option_map task_of_job result ≡ task_of (map string_bytes words.now) }
+    ensures few { IfSome result HasFewModels }
 {
     match words {
         [] => None,
@@ -63,7 +65,8 @@ pub fn words(words: &[String]) -> Option<Job<'_>>
 }
 
 fn check_job(words: &[String]) -> Option<Job<'_>>
-    ensures { option_map task_of_job result ≡ check_of (map string_bytes words.now) }
+    ensures task { option_map task_of_job result ≡ check_of (map string_bytes words.now) }
+    ensures few { IfSome result HasFewModels }
 {
     match words {
         [class, models @ ..] if is_class(class) && are_files(models) => Some(Job::Check {
@@ -75,7 +78,8 @@ fn check_job(words: &[String]) -> Option<Job<'_>>
 }
 
 fn run_job(words: &[String]) -> Option<Job<'_>>
-    ensures { option_map task_of_job result ≡ run_of (map string_bytes words.now) }
+    ensures task { option_map task_of_job result ≡ run_of (map string_bytes words.now) }
+    ensures few { IfSome result HasFewModels }
 {
     match words {
         [class, table, models @ ..] if is_class(class) && is_file(table) && are_files(models) => {
@@ -90,7 +94,8 @@ fn run_job(words: &[String]) -> Option<Job<'_>>
 }
 
 fn cxf_job(words: &[String]) -> Option<Job<'_>>
-    ensures { option_map task_of_job result ≡ cxf_of (map string_bytes words.now) }
+    ensures task { option_map task_of_job result ≡ cxf_of (map string_bytes words.now) }
+    ensures few { IfSome result HasFewModels }
 {
     match words {
         [class, models @ ..] if is_class(class) && are_files(models) => Some(Job::Cxf {
@@ -102,7 +107,8 @@ fn cxf_job(words: &[String]) -> Option<Job<'_>>
 }
 
 fn check_cxf_job(words: &[String]) -> Option<Job<'_>>
-    ensures { option_map task_of_job result ≡ check_cxf_of (map string_bytes words.now) }
+    ensures task { option_map task_of_job result ≡ check_cxf_of (map string_bytes words.now) }
+    ensures few { IfSome result HasFewModels }
 {
     match words {
         [doc] if is_file(doc) => Some(Job::CheckCxf { doc: doc.as_str() }),
@@ -111,7 +117,8 @@ fn check_cxf_job(words: &[String]) -> Option<Job<'_>>
 }
 
 fn run_cxf_job(words: &[String]) -> Option<Job<'_>>
-    ensures { option_map task_of_job result ≡ run_cxf_of (map string_bytes words.now) }
+    ensures task { option_map task_of_job result ≡ run_cxf_of (map string_bytes words.now) }
+    ensures few { IfSome result HasFewModels }
 {
     match words {
         [table, doc] if is_file(table) && is_file(doc) => Some(Job::RunCxf {
@@ -123,7 +130,8 @@ fn run_cxf_job(words: &[String]) -> Option<Job<'_>>
 }
 
 fn sample_job(words: &[String]) -> Option<Job<'_>>
-    ensures { option_map task_of_job result ≡ sample_of (map string_bytes words.now) }
+    ensures task { option_map task_of_job result ≡ sample_of (map string_bytes words.now) }
+    ensures few { IfSome result HasFewModels }
 {
     match words {
         [n] => number(n.as_bytes()).map(|n| Job::Sample { n }),

@@ -129,7 +129,20 @@ fn rule_text(rule: u32) -> &'static [u8]
     ensures { result.now ≡ spec.rule_text rule }
 {
     match rule {
+        1 => b"model file too long",
+        2 => b"not UTF-8",
+        3 => b"no token here",
+        4 => b"literal or identifier past its limits",
+        5 => b"nested too deeply",
+        6 => b"expression too long",
+        7 => b"syntax",
+        8 => b"wrong name after end",
         9 => b"not built yet",
+        10 => b"name declared twice",
+        11 => b"name not free",
+        12 => b"name not found",
+        13 => b"not supported here",
+        14 => b"no such block",
         60 => b"table too long",
         61 => b"wrong number of fields",
         62 => b"wrong header",

@@ -5,19 +5,34 @@ use std::alloc::Global;
 use std::process::Abort;
 use std::test::Fail;
 
-// What words, a model and a table end with: the code, and the texts on the two sinks.
+// What words, the models m.mo and s.mo, and the table t.csv end with: the code, and the texts on the two sinks.
 #[derive(Clone, Copy)]
 struct Case<'a> {
     words: &'a str,
-    model: &'a str,
+    model: &'a [u8],
+    other: &'a [u8],
     table: &'a [u8],
     code: u8,
     out: &'a str,
     err: &'a str,
 }
 
-const GATES: &str =
-    "block M\n  Buildings.Controls.OBC.CDL.Interfaces.BooleanInput u1;\n  Buildings.Controls.OBC.CDL.Interfaces.BooleanInput u2;\n  Buildings.Controls.OBC.CDL.Interfaces.BooleanOutput y;\n  Buildings.Controls.OBC.CDL.Logical.Not n;\n  Buildings.Controls.OBC.CDL.Logical.And a;\n  Buildings.Controls.OBC.CDL.Logical.Or o;\nequation\n  connect(u1, n.u);\n  connect(n.y, a.u1);\n  connect(u2, a.u2);\n  connect(u1, o.u1);\n  connect(a.y, o.u2);\n  connect(o.y, y);\nend M;\n";
+// The calls of the files and the writes of the sinks that fail, counted from 1; 0: none.
+#[derive(Clone, Copy)]
+struct Failing {
+    files: u64,
+    out: u64,
+    err: u64,
+}
+
+const NONE: Failing = Failing {
+    files: 0,
+    out: 0,
+    err: 0,
+};
+
+const GATES: &[u8] =
+    b"block M\n  Buildings.Controls.OBC.CDL.Interfaces.BooleanInput u1;\n  Buildings.Controls.OBC.CDL.Interfaces.BooleanInput u2;\n  Buildings.Controls.OBC.CDL.Interfaces.BooleanOutput y;\n  Buildings.Controls.OBC.CDL.Logical.Not n;\n  Buildings.Controls.OBC.CDL.Logical.And a;\n  Buildings.Controls.OBC.CDL.Logical.Or o;\nequation\n  connect(u1, n.u);\n  connect(n.y, a.u1);\n  connect(u2, a.u2);\n  connect(u1, o.u1);\n  connect(a.y, o.u2);\n  connect(o.y, y);\nend M;\n";
 
 const TABLE: &[u8] =
     b"time,u1,u2\n0,false,false\n1000,false,true\n2000,true,false\n3000,true,true\n";
@@ -29,31 +44,23 @@ const RUN: &str = "run M t.csv m.mo";
 const USAGE_LINE: &str =
     "usage: cdl check CLASS MODEL.. | run CLASS TABLE MODEL.. | cxf CLASS MODEL.. | checkcxf DOC | runcxf TABLE DOC | sample N\n";
 
-const LOOP: &str =
-    "block M Buildings.Controls.OBC.CDL.Interfaces.BooleanInput u; Buildings.Controls.OBC.CDL.Interfaces.BooleanOutput y; Buildings.Controls.OBC.CDL.Logical.Not n; Buildings.Controls.OBC.CDL.Logical.And a; Buildings.Controls.OBC.CDL.Logical.And b; equation connect(u, n.u); connect(n.y, a.u1); connect(b.y, a.u2); connect(a.y, b.u1); connect(n.y, b.u2); connect(b.y, y); end M;";
+// A job of two models, whose class lies in the package of the second.
+const TWO_MODELS: Case<'static> = Case {
+    words: "run P.M t.csv m.mo s.mo",
+    model: b"within P; block M Buildings.Controls.OBC.CDL.Interfaces.BooleanInput u1; Buildings.Controls.OBC.CDL.Interfaces.BooleanInput u2; Buildings.Controls.OBC.CDL.Interfaces.BooleanOutput y; Buildings.Controls.OBC.CDL.Logical.Or a; equation connect(u1, a.u1); connect(u2, a.u2); connect(a.y, y); end M;",
+    other: b"within P; package K end K;",
+    table: TABLE,
+    code: 0,
+    out: TRACE,
+    err: "",
+};
 
-const NO_MODEL: &str = "m.mo:1:1: C9 not built yet\n";
-
-const CASES: [Case<'static>; 16] = [
+const CASES: [Case<'static>; 36] = [
+    // What runs, and ends with a fault.
     Case {
-        words: RUN,
-        model: "block M Buildings.Controls.OBC.CDL.Interfaces.BooleanInput a; Buildings.Controls.OBC.CDL.Interfaces.BooleanInput b; Buildings.Controls.OBC.CDL.Interfaces.BooleanInput c; Buildings.Controls.OBC.CDL.Interfaces.BooleanOutput y; Buildings.Controls.OBC.CDL.Logical.And p; Buildings.Controls.OBC.CDL.Logical.And q; Buildings.Controls.OBC.CDL.Logical.And r; Buildings.Controls.OBC.CDL.Logical.Or s; Buildings.Controls.OBC.CDL.Logical.Or t; equation connect(a, p.u1); connect(b, p.u2); connect(b, q.u1); connect(c, q.u2); connect(a, r.u1); connect(c, r.u2); connect(p.y, s.u1); connect(q.y, s.u2); connect(s.y, t.u1); connect(r.y, t.u2); connect(t.y, y); end M;",
-        table: b"time,a,b,c\n0,0,0,0\n1,0,0,1\n2,0,1,0\n3,0,1,1\n4,1,0,0\n5,1,0,1\n6,1,1,0\n7,1,1,1\n",
-        code: 0,
-        out: "time,y\n0,false\n1,false\n2,false\n3,true\n4,false\n5,true\n6,true\n7,true\n",
-        err: "",
-    },
-    Case {
-        words: RUN,
-        model: "block M Buildings.Controls.OBC.CDL.Interfaces.BooleanInput a; Buildings.Controls.OBC.CDL.Interfaces.BooleanInput b; Buildings.Controls.OBC.CDL.Interfaces.BooleanOutput z; Buildings.Controls.OBC.CDL.Interfaces.BooleanOutput y; Buildings.Controls.OBC.CDL.Logical.Not n; Buildings.Controls.OBC.CDL.Logical.Not m; Buildings.Controls.OBC.CDL.Logical.And p; Buildings.Controls.OBC.CDL.Logical.And q; Buildings.Controls.OBC.CDL.Logical.Or o; equation connect(o.y, y); connect(a, n.u); connect(b, m.u); connect(a, p.u1); connect(m.y, p.u2); connect(n.y, q.u1); connect(b, q.u2); connect(p.y, o.u1); connect(q.y, o.u2); connect(n.y, z); end M;",
-        table: b"time,a,b\n0,0,0\n1,0,1\n2,1,0\n3,1,1\n",
-        code: 0,
-        out: "time,z,y\n0,true,false\n1,true,true\n2,false,true\n3,false,false\n",
-        err: "",
-    },
-    Case {
-        words: RUN,
+        words: "run M t.csv m.mo s.mo",
         model: GATES,
+        other: b"package Q end Q;",
         table: TABLE,
         code: 0,
         out: TRACE,
@@ -61,23 +68,17 @@ const CASES: [Case<'static>; 16] = [
     },
     Case {
         words: RUN,
-        model: LOOP,
-        table: b"",
-        code: 1,
-        out: "",
-        err: NO_MODEL,
-    },
-    Case {
-        words: RUN,
-        model: "block M equation end M;",
+        model: b"block M end M;",
+        other: b"",
         table: b"time\n7\n",
         code: 0,
         out: "time\n7\n",
         err: "",
     },
     Case {
-        words: RUN,
-        model: "block M end M;",
+        words: "run P.M t.csv s.mo m.mo",
+        model: b"within P; block M /* here */ annotation(version = \"1\"); end M;",
+        other: b"within P; package K end K;",
         table: b"time\n",
         code: 0,
         out: "time\n",
@@ -85,80 +86,301 @@ const CASES: [Case<'static>; 16] = [
     },
     Case {
         words: RUN,
-        model: "block N equation end N;",
-        table: b"time\n",
-        code: 1,
-        out: "",
-        err: NO_MODEL,
+        model: b"block M Buildings.Controls.OBC.CDL.Interfaces.RealInput u1; Buildings.Controls.OBC.CDL.Interfaces.RealInput u2; Buildings.Controls.OBC.CDL.Interfaces.RealOutput y; Buildings.Controls.OBC.CDL.Reals.Divide d; equation connect(u1, d.u1); connect(u2, d.u2); connect(d.y, y); end M;",
+        other: b"",
+        table: b"time,u1,u2\n0,1,3\n1,2,3\n2,1,0\n",
+        code: 3,
+        out: "time,y\n0,0.333333\n1,0.666667\n",
+        err: "range fault at 2 in #d\n",
     },
     Case {
-        words: "run Modelica t.csv m.mo",
-        model: "block Modelica equation end Modelica;",
-        table: b"time\n",
-        code: 1,
-        out: "",
-        err: NO_MODEL,
+        words: RUN,
+        model: b"block M Buildings.Controls.OBC.CDL.Interfaces.IntegerInput u1; Buildings.Controls.OBC.CDL.Interfaces.IntegerInput u2; Buildings.Controls.OBC.CDL.Interfaces.IntegerOutput y; Buildings.Controls.OBC.CDL.Integers.Multiply m; equation connect(u1, m.u1); connect(u2, m.u2); connect(m.y, y); end M;",
+        other: b"",
+        table: b"time,u1,u2\n0,65536,32767\n1,65536,32768\n2,1,1\n",
+        code: 3,
+        out: "time,y\n0,2147418112\n",
+        err: "range fault at 1 in #m\n",
     },
     Case {
-        words: "run M t.csv none.mo",
-        model: GATES,
-        table: TABLE,
+        words: RUN,
+        model: b"block M Buildings.Controls.OBC.CDL.Interfaces.RealInput u1; Buildings.Controls.OBC.CDL.Interfaces.RealInput u2; Buildings.Controls.OBC.CDL.Interfaces.RealOutput y; Buildings.Controls.OBC.CDL.Interfaces.RealOutput z; Buildings.Controls.OBC.CDL.Reals.Divide e; Buildings.Controls.OBC.CDL.Reals.Divide d; Buildings.Controls.OBC.CDL.Reals.Divide f; equation connect(u1, f.u1); connect(u2, f.u2); connect(u1, d.u1); connect(u2, d.u2); connect(u1, e.u1); connect(u1, e.u2); connect(d.y, y); connect(f.y, z); end M;",
+        other: b"",
+        table: b"time,u1,u2\n0,1,0\n",
+        code: 3,
+        out: "time,y,z\n",
+        err: "range fault at 0 in #d\n",
+    },
+    Case {
+        words: "run Buildings.Controls.OBC.X.M t.csv m.mo",
+        model: b"within Buildings.Controls.OBC.X;\nblock M\n  CDL.Interfaces.BooleanInput u;\n  CDL.Interfaces.BooleanOutput y;\nequation\n  connect(u, y);\nend M;\n",
+        other: b"",
+        table: b"time,u\n0,true\n",
+        code: 0,
+        out: "time,y\n0,true\n",
+        err: "",
+    },
+    // Rules of texts.
+    Case {
+        words: RUN,
+        model: b"block M \xff end M;",
+        other: b"",
+        table: b"time,u1,u2\n",
+        code: 1,
+        out: "",
+        err: "m.mo:1:9: C2 not UTF-8\n",
+    },
+    Case {
+        words: RUN,
+        model: b"block M\n # end M;",
+        other: b"",
+        table: b"time,u1,u2\n",
+        code: 1,
+        out: "",
+        err: "m.mo:2:2: C3 no token here\n",
+    },
+    Case {
+        words: RUN,
+        model: b"block M parameter Integer k = 2147483648; end M;",
+        other: b"",
+        table: b"time,u1,u2\n",
+        code: 1,
+        out: "",
+        err: "m.mo:1:31: C4 literal or identifier past its limits\n",
+    },
+    Case {
+        words: RUN,
+        model: b"block M\nend M",
+        other: b"",
+        table: b"time,u1,u2\n",
+        code: 1,
+        out: "",
+        err: "m.mo:2:6: C7 syntax\n",
+    },
+    Case {
+        words: RUN,
+        model: b"block M\nend N;",
+        other: b"",
+        table: b"time,u1,u2\n",
+        code: 1,
+        out: "",
+        err: "m.mo:2:5: C8 wrong name after end\n",
+    },
+    Case {
+        words: "run M t.csv m.mo none.mo",
+        model: b"block M end N;",
+        other: b"",
+        table: b"time,u1,u2\n",
+        code: 1,
+        out: "",
+        err: "m.mo:1:13: C8 wrong name after end\n",
+    },
+    Case {
+        words: "run M t.csv m.mo s.mo",
+        model: b"block M Foo f; end M;",
+        other: b"package Q end R;",
+        table: b"time,u1,u2\n",
+        code: 1,
+        out: "",
+        err: "s.mo:1:15: C8 wrong name after end\n",
+    },
+    // Rules of classes.
+    Case {
+        words: "run M t.csv m.mo m.mo",
+        model: b"block M end M;",
+        other: b"",
+        table: b"time,u1,u2\n",
+        code: 1,
+        out: "",
+        err: "m.mo:1:7: C10 name declared twice\n",
+    },
+    Case {
+        words: "run M t.csv m.mo s.mo",
+        model: b"block M Foo f; end M;",
+        other: b"\n\nblock M end M;",
+        table: b"time,u1,u2\n",
+        code: 1,
+        out: "",
+        err: "s.mo:3:7: C10 name declared twice\n",
+    },
+    Case {
+        words: "run M t.csv m.mo s.mo",
+        model: b"block M Foo f; end M;",
+        other: b"block Real end Real;",
+        table: b"time,u1,u2\n",
+        code: 1,
+        out: "",
+        err: "s.mo:1:7: C11 name not free\n",
+    },
+    Case {
+        words: "run M t.csv m.mo s.mo",
+        model: b"block M end M;",
+        other: b"block N\n  Foo f; end N;",
+        table: b"time,u1,u2\n",
+        code: 1,
+        out: "",
+        err: "s.mo:2:3: C12 name not found\n",
+    },
+    Case {
+        words: "run Buildings.Controls.OBC.X.M t.csv m.mo s.mo",
+        model: b"within Buildings.Controls.OBC.X;\nblock M\n  CDL.Interfaces.BooleanInput u; end M;",
+        other: b"within Buildings.Controls.OBC.X;\npackage CDL\nend CDL;",
+        table: b"time,u1,u2\n",
+        code: 1,
+        out: "",
+        err: "m.mo:3:3: C12 name not found\n",
+    },
+    Case {
+        words: "run N t.csv m.mo",
+        model: b"block M\n  Buildings.Controls.OBC.CDL.Reals.PID p; end M;",
+        other: b"",
+        table: b"time,u1,u2\n",
+        code: 1,
+        out: "",
+        err: "m.mo:2:3: C13 not supported here\n",
+    },
+    Case {
+        words: "run M t.csv m.mo none.mo",
+        model: b"block M Foo f; end M;",
+        other: b"",
+        table: b"time,u1,u2\n",
         code: 4,
         out: "",
         err: "read fault\n",
+    },
+    Case {
+        words: "run N none.csv m.mo",
+        model: b"block M end M;",
+        other: b"",
+        table: b"time,u1,u2\n",
+        code: 1,
+        out: "",
+        err: "#: C14 no such block\n",
+    },
+    Case {
+        words: "run Q none.csv m.mo s.mo",
+        model: b"block M end M;",
+        other: b"package Q end Q;",
+        table: b"time,u1,u2\n",
+        code: 1,
+        out: "",
+        err: "#: C14 no such block\n",
+    },
+    Case {
+        words: "run E none.csv m.mo s.mo",
+        model: b"block M end M;",
+        other: b"type E = enumeration(a, b);",
+        table: b"time,u1,u2\n",
+        code: 1,
+        out: "",
+        err: "#: C14 no such block\n",
+    },
+    // What is not built.
+    Case {
+        words: "run M none.csv m.mo",
+        model: b"block M Buildings.Controls.OBC.CDL.Logical.Pre p; end M;",
+        other: b"",
+        table: b"time,u1,u2\n",
+        code: 1,
+        out: "",
+        err: "#: C9 not built yet\n",
+    },
+    Case {
+        words: "run M none.csv m.mo s.mo",
+        model: b"block M N n; end M;",
+        other: b"block N end N;",
+        table: b"time,u1,u2\n",
+        code: 1,
+        out: "",
+        err: "#: C9 not built yet\n",
     },
     Case {
         words: "run M none.csv m.mo",
-        model: GATES,
-        table: TABLE,
-        code: 4,
-        out: "",
-        err: "read fault\n",
-    },
-    Case {
-        words: "run M.N t.csv m.mo",
-        model: GATES,
-        table: TABLE,
+        model: b"block M parameter Real k = 1; end M;",
+        other: b"",
+        table: b"time,u1,u2\n",
         code: 1,
         out: "",
         err: "#: C9 not built yet\n",
     },
     Case {
         words: "check M m.mo",
-        model: GATES,
-        table: TABLE,
+        model: b"block M end M;",
+        other: b"",
+        table: b"time,u1,u2\n",
         code: 1,
         out: "",
         err: "#: C9 not built yet\n",
     },
     Case {
         words: "sample 2000",
-        model: GATES,
-        table: TABLE,
+        model: b"",
+        other: b"",
+        table: b"time,u1,u2\n",
         code: 1,
         out: "",
         err: "#: C9 not built yet\n",
     },
+    // Files and words.
+    Case {
+        words: "run M m.mo m.mo",
+        model: b"block M end M;",
+        other: b"",
+        table: b"time,u1,u2\n",
+        code: 1,
+        out: "",
+        err: "m.mo:1:1: C62 wrong header\n",
+    },
+    Case {
+        words: "run M none.csv m.mo",
+        model: b"block M end M;",
+        other: b"",
+        table: b"time,u1,u2\n",
+        code: 4,
+        out: "",
+        err: "read fault\n",
+    },
+    Case {
+        words: "run M t.csv none.mo",
+        model: b"",
+        other: b"",
+        table: b"time,u1,u2\n",
+        code: 4,
+        out: "",
+        err: "read fault\n",
+    },
     Case {
         words: "sample 007",
-        model: GATES,
-        table: TABLE,
+        model: b"",
+        other: b"",
+        table: b"time,u1,u2\n",
         code: 2,
         out: "",
         err: USAGE_LINE,
     },
     Case {
         words: "check end m.mo",
-        model: GATES,
-        table: TABLE,
+        model: b"",
+        other: b"",
+        table: b"time,u1,u2\n",
         code: 2,
         out: "",
         err: USAGE_LINE,
     },
     Case {
         words: "run M t.csv",
-        model: GATES,
-        table: TABLE,
+        model: b"",
+        other: b"",
+        table: b"time,u1,u2\n",
+        code: 2,
+        out: "",
+        err: USAGE_LINE,
+    },
+    Case {
+        words: "run M t.csv m m m m m m m m m m m m m m m m m m m m m m m m m m m m m m m m m m m m m m m m m m m m m m m m m m m m m m m m m m m m m m m m m",
+        model: b"",
+        other: b"",
+        table: b"time,u1,u2\n",
         code: 2,
         out: "",
         err: USAGE_LINE,
@@ -288,185 +510,6 @@ const TABLES: [(&[u8], &str, &str); 32] = [
     ),
 ];
 
-// Texts, and whether they are a model: each rule is broken alone beside the nearest text that keeps it.
-const MODELS: [(&str, bool); 44] = [
-    (
-        "block M Buildings.Controls.OBC.CDL.Interfaces.BooleanInput u; Buildings.Controls.OBC.CDL.Interfaces.BooleanOutput y; Buildings.Controls.OBC.CDL.Logical.Not n; Buildings.Controls.OBC.CDL.Logical.And a; equation connect(u, n.u); connect(n.y, a.u1); connect(u, a.u2); connect(a.y, y); end M;",
-        true,
-    ),
-    (
-        "block M Buildings.Controls.OBC.CDL.Interfaces.BooleanInput flow; Buildings.Controls.OBC.CDL.Interfaces.BooleanOutput y; Buildings.Controls.OBC.CDL.Logical.Not n; Buildings.Controls.OBC.CDL.Logical.And a; equation connect(flow, n.u); connect(n.y, a.u1); connect(flow, a.u2); connect(a.y, y); end M;",
-        false,
-    ),
-    (
-        "block M Buildings.Controls.OBC.CDL.Interfaces.BooleanInput u; Buildings.Controls.OBC.CDL.Interfaces.BooleanOutput y; Buildings.Controls.OBC.CDL.Logical.Not n; Buildings.Controls.OBC.CDL.Logical.And a; equation connect(u, n.u); connect(n.y, a.u1); connect(u, a.u2); connect(a.y, y); end M; // end",
-        true,
-    ),
-    (
-        "\u{feff}block M Buildings.Controls.OBC.CDL.Interfaces.BooleanInput u; Buildings.Controls.OBC.CDL.Interfaces.BooleanOutput y; Buildings.Controls.OBC.CDL.Logical.Not n; Buildings.Controls.OBC.CDL.Logical.And a; equation connect(u, n.u); connect(n.y, a.u1); connect(u, a.u2); connect(a.y, y); end M;",
-        true,
-    ),
-    (
-        "block M Buildings.Controls.OBC.CDL.Interfaces.BooleanInput u; Buildings.Controls.OBC.CDL.Interfaces.BooleanOutput y; Buildings.Controls.OBC.CDL.Logical.Not xxxxxxxxxxxxxxxxxxxxxxxxxxxxxxxxxxxxxxxxxxxxxxxxxxxxxxxxxxxxxxxx; Buildings.Controls.OBC.CDL.Logical.And a; equation connect(u, xxxxxxxxxxxxxxxxxxxxxxxxxxxxxxxxxxxxxxxxxxxxxxxxxxxxxxxxxxxxxxxx.u); connect(xxxxxxxxxxxxxxxxxxxxxxxxxxxxxxxxxxxxxxxxxxxxxxxxxxxxxxxxxxxxxxxx.y, a.u1); connect(u, a.u2); connect(a.y, y); end M;",
-        true,
-    ),
-    (
-        "block M Buildings.Controls.OBC.CDL.Interfaces.BooleanInput u; Buildings.Controls.OBC.CDL.Interfaces.BooleanOutput y; Buildings.Controls.OBC.CDL.Logical.Not xxxxxxxxxxxxxxxxxxxxxxxxxxxxxxxxxxxxxxxxxxxxxxxxxxxxxxxxxxxxxxxxx; Buildings.Controls.OBC.CDL.Logical.And a; equation connect(u, xxxxxxxxxxxxxxxxxxxxxxxxxxxxxxxxxxxxxxxxxxxxxxxxxxxxxxxxxxxxxxxxx.u); connect(xxxxxxxxxxxxxxxxxxxxxxxxxxxxxxxxxxxxxxxxxxxxxxxxxxxxxxxxxxxxxxxxx.y, a.u1); connect(u, a.u2); connect(a.y, y); end M;",
-        false,
-    ),
-    (
-        "block M Buildings.Controls.OBC.CDL.Interfaces.BooleanInput u; Buildings.Controls.OBC.CDL.Interfaces.BooleanOutput y; Buildings.Controls.OBC.CDL.Logical.Not n; Buildings.Controls.OBC.CDL.Logical.Xor a; equation connect(u, n.u); connect(n.y, a.u1); connect(u, a.u2); connect(a.y, y); end M;",
-        false,
-    ),
-    (
-        "block M Buildings.Controls.OBC.CDL.Interfaces.BooleanInput u; Buildings.Controls.OBC.CDL.Interfaces.BooleanOutput y; Buildings.Controls.OBC.CDL.Logical.Not n; Buildings.Controls.OBC.CDL.Logical.Not n; Buildings.Controls.OBC.CDL.Logical.And a; equation connect(u, n.u); connect(n.y, a.u1); connect(u, a.u2); connect(a.y, y); end M;",
-        false,
-    ),
-    (
-        "block M Buildings.Controls.OBC.CDL.Interfaces.BooleanInput u; Buildings.Controls.OBC.CDL.Interfaces.BooleanOutput y; Buildings.Controls.OBC.CDL.Logical.Not u; Buildings.Controls.OBC.CDL.Logical.And a; equation connect(u, u.u); connect(u.y, a.u1); connect(u, a.u2); connect(a.y, y); end M;",
-        false,
-    ),
-    (
-        "block M Buildings.Controls.OBC.CDL.Interfaces.BooleanInput u; Buildings.Controls.OBC.CDL.Interfaces.BooleanOutput y; Buildings.Controls.OBC.CDL.Logical.Not Real; Buildings.Controls.OBC.CDL.Logical.And a; equation connect(u, Real.u); connect(Real.y, a.u1); connect(u, a.u2); connect(a.y, y); end M;",
-        false,
-    ),
-    (
-        "block M Buildings.Controls.OBC.CDL.Interfaces.BooleanInput u; Buildings.Controls.OBC.CDL.Interfaces.BooleanOutput y; Buildings.Controls.OBC.CDL.Logical.And a; Buildings.Controls.OBC.CDL.Logical.Not n; equation connect(u, n.u); connect(n.y, a.u1); connect(u, a.u2); connect(a.y, y); end M;",
-        false,
-    ),
-    (
-        "block M Buildings.Controls.OBC.CDL.Interfaces.BooleanInput u; Buildings.Controls.OBC.CDL.Interfaces.BooleanOutput y; Buildings.Controls.OBC.CDL.Logical.Not n; Buildings.Controls.OBC.CDL.Logical.And a; equation connect(u, n.u); connect(n.y, a.u1); connect(a.y, a.u2); connect(a.y, y); end M;",
-        false,
-    ),
-    (
-        "block M Buildings.Controls.OBC.CDL.Interfaces.BooleanInput u; Buildings.Controls.OBC.CDL.Interfaces.BooleanOutput y; Buildings.Controls.OBC.CDL.Logical.Not n; Buildings.Controls.OBC.CDL.Logical.And a; equation connect(u, n.u); connect(n.y, a.u1); connect(u, a.u2); connect(u, a.u2); connect(a.y, y); end M;",
-        false,
-    ),
-    (
-        "block M Buildings.Controls.OBC.CDL.Interfaces.BooleanInput u; Buildings.Controls.OBC.CDL.Interfaces.BooleanOutput y; Buildings.Controls.OBC.CDL.Logical.Not n; Buildings.Controls.OBC.CDL.Logical.And a; equation connect(u, n.u); connect(n.y, a.u1);  connect(a.y, y); end M;",
-        false,
-    ),
-    (
-        "block M Buildings.Controls.OBC.CDL.Interfaces.BooleanInput u; Buildings.Controls.OBC.CDL.Interfaces.BooleanOutput y; Buildings.Controls.OBC.CDL.Logical.Not n; Buildings.Controls.OBC.CDL.Logical.And a; equation connect(u, n.u); connect(n.y, a.u1);  connect(y, a.u2); connect(a.y, y); end M;",
-        false,
-    ),
-    (
-        "block M Buildings.Controls.OBC.CDL.Interfaces.BooleanInput u; Buildings.Controls.OBC.CDL.Interfaces.BooleanOutput y; Buildings.Controls.OBC.CDL.Logical.Not n; Buildings.Controls.OBC.CDL.Logical.And a; equation connect(u, n.u); connect(n.y, a.u1); connect(n.y, a.u2); connect(a.y, y); end M;",
-        true,
-    ),
-    (
-        "block M Buildings.Controls.OBC.CDL.Interfaces.BooleanInput u; Buildings.Controls.OBC.CDL.Interfaces.BooleanOutput y; Buildings.Controls.OBC.CDL.Logical.Not n; Buildings.Controls.OBC.CDL.Logical.And a; equation connect(u, n.u); connect(n.y, a.u1); connect(a.u1, a.u2); connect(a.y, y); end M;",
-        false,
-    ),
-    (
-        "block M Buildings.Controls.OBC.CDL.Interfaces.BooleanInput u; Buildings.Controls.OBC.CDL.Interfaces.BooleanOutput y; Buildings.Controls.OBC.CDL.Logical.Not n; Buildings.Controls.OBC.CDL.Logical.And a; equation connect(u, n.u); connect(n.y, a.u1); connect(u, a.u3); connect(a.y, y); end M;",
-        false,
-    ),
-    (
-        "block M Buildings.Controls.OBC.CDL.Interfaces.BooleanInput u; Buildings.Controls.OBC.CDL.Interfaces.BooleanOutput y; Buildings.Controls.OBC.CDL.Logical.Not n; Buildings.Controls.OBC.CDL.Logical.And a; equation connect(u, n.u); connect(n.y, a.u1); connect(u, a.u2); connect(a.y, y); end N;",
-        false,
-    ),
-    (
-        "block M Buildings.Controls.OBC.CDL.Interfaces.BooleanInput u; Buildings.Controls.OBC.CDL.Interfaces.BooleanOutput y; Buildings.Controls.OBC.CDL.Logical.Not n; Buildings.Controls.OBC.CDL.Logical.And a; equation connect(u, n.u); connect(n.y, a.u1); connect(u, a.u2); connect(a.y, y); end M",
-        false,
-    ),
-    (
-        "block N Buildings.Controls.OBC.CDL.Interfaces.BooleanInput u; Buildings.Controls.OBC.CDL.Interfaces.BooleanOutput y; Buildings.Controls.OBC.CDL.Logical.Not n; Buildings.Controls.OBC.CDL.Logical.And a; equation connect(u, n.u); connect(n.y, a.u1); connect(u, a.u2); connect(a.y, y); end N;",
-        false,
-    ),
-    // What the whole language has beyond a block of gates, and does not change it: comments, sections, description strings, annotations, several names in a clause.
-    (
-        "/* a block */ block M Buildings.Controls.OBC.CDL.Interfaces.BooleanInput u; Buildings.Controls.OBC.CDL.Interfaces.BooleanOutput y; Buildings.Controls.OBC.CDL.Logical.Not n; Buildings.Controls.OBC.CDL.Logical.And a; equation connect(u, n.u); connect(n.y, a.u1); connect(u, a.u2); connect(a.y, y); end M;",
-        true,
-    ),
-    (
-        "/* a block block M Buildings.Controls.OBC.CDL.Interfaces.BooleanInput u; Buildings.Controls.OBC.CDL.Interfaces.BooleanOutput y; Buildings.Controls.OBC.CDL.Logical.Not n; Buildings.Controls.OBC.CDL.Logical.And a; equation connect(u, n.u); connect(n.y, a.u1); connect(u, a.u2); connect(a.y, y); end M;",
-        false,
-    ),
-    (
-        "block M public Buildings.Controls.OBC.CDL.Interfaces.BooleanInput u; Buildings.Controls.OBC.CDL.Interfaces.BooleanOutput y; Buildings.Controls.OBC.CDL.Logical.Not n; Buildings.Controls.OBC.CDL.Logical.And a; equation connect(u, n.u); connect(n.y, a.u1); connect(u, a.u2); connect(a.y, y); end M;",
-        true,
-    ),
-    (
-        "block M protected Buildings.Controls.OBC.CDL.Interfaces.BooleanInput u; Buildings.Controls.OBC.CDL.Interfaces.BooleanOutput y; Buildings.Controls.OBC.CDL.Logical.Not n; Buildings.Controls.OBC.CDL.Logical.And a; equation connect(u, n.u); connect(n.y, a.u1); connect(u, a.u2); connect(a.y, y); end M;",
-        true,
-    ),
-    (
-        "block M \"gates\" Buildings.Controls.OBC.CDL.Interfaces.BooleanInput u \"the input\"; Buildings.Controls.OBC.CDL.Interfaces.BooleanOutput y; Buildings.Controls.OBC.CDL.Logical.Not n; Buildings.Controls.OBC.CDL.Logical.And a; equation connect(u, n.u) \"first\"; connect(n.y, a.u1); connect(u, a.u2); connect(a.y, y); end M;",
-        true,
-    ),
-    (
-        "block M Buildings.Controls.OBC.CDL.Interfaces.BooleanInput u annotation(Placement(extent = {{1, 2}, {3, 4}})); Buildings.Controls.OBC.CDL.Interfaces.BooleanOutput y; Buildings.Controls.OBC.CDL.Logical.Not n; Buildings.Controls.OBC.CDL.Logical.And a; annotation(version = \"1\"); equation connect(u, n.u) annotation(Line(points = {{1, 2}})); connect(n.y, a.u1); connect(u, a.u2); connect(a.y, y); annotation(Icon()); end M;",
-        true,
-    ),
-    (
-        "block M Buildings.Controls.OBC.CDL.Interfaces.BooleanInput u annotation(Placement(extent = {1, 2)); Buildings.Controls.OBC.CDL.Interfaces.BooleanOutput y; Buildings.Controls.OBC.CDL.Logical.Not n; Buildings.Controls.OBC.CDL.Logical.And a; equation connect(u, n.u); connect(n.y, a.u1); connect(u, a.u2); connect(a.y, y); end M;",
-        false,
-    ),
-    (
-        "block M Buildings.Controls.OBC.CDL.Interfaces.BooleanInput u; Buildings.Controls.OBC.CDL.Interfaces.BooleanOutput y; Buildings.Controls.OBC.CDL.Logical.Not n, m; Buildings.Controls.OBC.CDL.Logical.And a; equation connect(u, n.u); connect(n.y, m.u); connect(m.y, a.u1); connect(n.y, a.u2); connect(a.y, y); end M;",
-        true,
-    ),
-    (
-        "within; block M Buildings.Controls.OBC.CDL.Interfaces.BooleanInput u; Buildings.Controls.OBC.CDL.Interfaces.BooleanOutput y; Buildings.Controls.OBC.CDL.Logical.Not n; Buildings.Controls.OBC.CDL.Logical.And a; equation connect(u, n.u); connect(n.y, a.u1); connect(u, a.u2); connect(a.y, y); end M;",
-        true,
-    ),
-    // What it has beyond, and is not built: a package, other classes, parameters, values, arguments, conditions, dimensions and subscripts.
-    (
-        "within P; block M Buildings.Controls.OBC.CDL.Interfaces.BooleanInput u; Buildings.Controls.OBC.CDL.Interfaces.BooleanOutput y; Buildings.Controls.OBC.CDL.Logical.Not n; Buildings.Controls.OBC.CDL.Logical.And a; equation connect(u, n.u); connect(n.y, a.u1); connect(u, a.u2); connect(a.y, y); end M;",
-        false,
-    ),
-    (
-        "block M Buildings.Controls.OBC.CDL.Interfaces.BooleanInput u; Buildings.Controls.OBC.CDL.Interfaces.BooleanOutput y; Buildings.Controls.OBC.CDL.Logical.Not n; Buildings.Controls.OBC.CDL.Logical.And a; equation connect(u, n.u); connect(n.y, a.u1); connect(u, a.u2); connect(a.y, y); end M; block N end N;",
-        false,
-    ),
-    (
-        "package M block N Buildings.Controls.OBC.CDL.Interfaces.BooleanInput u; Buildings.Controls.OBC.CDL.Interfaces.BooleanOutput y; Buildings.Controls.OBC.CDL.Logical.Not n; Buildings.Controls.OBC.CDL.Logical.And a; equation connect(u, n.u); connect(n.y, a.u1); connect(u, a.u2); connect(a.y, y); end N; end M;",
-        false,
-    ),
-    ("type M = enumeration(a, b);", false),
-    (
-        "block M parameter Real k = 1.5; Buildings.Controls.OBC.CDL.Interfaces.BooleanInput u; Buildings.Controls.OBC.CDL.Interfaces.BooleanOutput y; Buildings.Controls.OBC.CDL.Logical.Not n; Buildings.Controls.OBC.CDL.Logical.And a; equation connect(u, n.u); connect(n.y, a.u1); connect(u, a.u2); connect(a.y, y); end M;",
-        false,
-    ),
-    (
-        "block M parameter Buildings.Controls.OBC.CDL.Interfaces.BooleanInput u; Buildings.Controls.OBC.CDL.Interfaces.BooleanOutput y; Buildings.Controls.OBC.CDL.Logical.Not n; Buildings.Controls.OBC.CDL.Logical.And a; equation connect(u, n.u); connect(n.y, a.u1); connect(u, a.u2); connect(a.y, y); end M;",
-        false,
-    ),
-    (
-        "block M constant Buildings.Controls.OBC.CDL.Interfaces.BooleanInput u; Buildings.Controls.OBC.CDL.Interfaces.BooleanOutput y; Buildings.Controls.OBC.CDL.Logical.Not n; Buildings.Controls.OBC.CDL.Logical.And a; equation connect(u, n.u); connect(n.y, a.u1); connect(u, a.u2); connect(a.y, y); end M;",
-        false,
-    ),
-    (
-        "block M final Buildings.Controls.OBC.CDL.Interfaces.BooleanInput u; Buildings.Controls.OBC.CDL.Interfaces.BooleanOutput y; Buildings.Controls.OBC.CDL.Logical.Not n; Buildings.Controls.OBC.CDL.Logical.And a; equation connect(u, n.u); connect(n.y, a.u1); connect(u, a.u2); connect(a.y, y); end M;",
-        false,
-    ),
-    (
-        "block M Buildings.Controls.OBC.CDL.Interfaces.BooleanInput u = true; Buildings.Controls.OBC.CDL.Interfaces.BooleanOutput y; Buildings.Controls.OBC.CDL.Logical.Not n; Buildings.Controls.OBC.CDL.Logical.And a; equation connect(u, n.u); connect(n.y, a.u1); connect(u, a.u2); connect(a.y, y); end M;",
-        false,
-    ),
-    (
-        "block M Buildings.Controls.OBC.CDL.Interfaces.BooleanInput u(start = true); Buildings.Controls.OBC.CDL.Interfaces.BooleanOutput y; Buildings.Controls.OBC.CDL.Logical.Not n; Buildings.Controls.OBC.CDL.Logical.And a; equation connect(u, n.u); connect(n.y, a.u1); connect(u, a.u2); connect(a.y, y); end M;",
-        false,
-    ),
-    (
-        "block M Buildings.Controls.OBC.CDL.Interfaces.BooleanInput u if true; Buildings.Controls.OBC.CDL.Interfaces.BooleanOutput y; Buildings.Controls.OBC.CDL.Logical.Not n; Buildings.Controls.OBC.CDL.Logical.And a; equation connect(u, n.u); connect(n.y, a.u1); connect(u, a.u2); connect(a.y, y); end M;",
-        false,
-    ),
-    (
-        "block M Buildings.Controls.OBC.CDL.Interfaces.BooleanInput u[1]; Buildings.Controls.OBC.CDL.Interfaces.BooleanOutput y; Buildings.Controls.OBC.CDL.Logical.Not n; Buildings.Controls.OBC.CDL.Logical.And a; equation connect(u, n.u); connect(n.y, a.u1); connect(u, a.u2); connect(a.y, y); end M;",
-        false,
-    ),
-    (
-        "block M Buildings.Controls.OBC.CDL.Interfaces.BooleanInput u; Buildings.Controls.OBC.CDL.Interfaces.BooleanOutput y; Buildings.Controls.OBC.CDL.Logical.Not n; Buildings.Controls.OBC.CDL.Logical.And a; equation connect(u[1], n.u); connect(n.y, a.u1); connect(u, a.u2); connect(a.y, y); end M;",
-        false,
-    ),
-    (
-        "block M Buildings.Controls.OBC.CDL.Interfaces.BooleanInput u; Buildings.Controls.OBC.CDL.Interfaces.BooleanOutput y; Buildings.Controls.OBC.CDL.Logical.Not n; Buildings.Controls.OBC.CDL.Logical.And a; equation connect(u, n[:].u); connect(n.y, a.u1); connect(u, a.u2); connect(a.y, y); end M;",
-        false,
-    ),
-];
-
 fn words_of(alloc: Global, text: &str) -> Result<Vec<String>, Fail> {
     let mut words = Vec::new(alloc);
     for word in text.split(' ') {
@@ -475,15 +518,18 @@ fn words_of(alloc: Global, text: &str) -> Result<Vec<String>, Fail> {
     Ok(words)
 }
 
-// Runs a case. The write of that number on standard output fails, if it is not 0.
-fn ends_so(rt: &impl Abort, alloc: Global, case: &Case<'_>, failing: u64) -> Result<(), Fail> {
+// Runs a case while these calls fail.
+fn ends_so(rt: &impl Abort, alloc: Global, case: &Case<'_>, failing: Failing) -> Result<(), Fail> {
     let words = words_of(alloc, case.words)?;
     let mut files = MemFiles::new(alloc);
-    files.put("m.mo", case.model.as_bytes())?;
+    files.put("m.mo", case.model)?;
+    files.put("s.mo", case.other)?;
     files.put("t.csv", case.table)?;
+    files.fail(failing.files)?;
     let mut out = MemSink::new(alloc, 7, 4096)?;
-    out.fail(failing)?;
+    out.fail(failing.out)?;
     let mut err = MemSink::new(alloc, 4096, 4096)?;
+    err.fail(failing.err)?;
     let outcome = command(alloc, &words, &mut files, &mut out, &mut err);
     assert_eq!(rt; err.bytes(), case.err.as_bytes());
     assert_eq!(rt; out.bytes(), case.out.as_bytes());
@@ -499,16 +545,42 @@ fn table_ends_so(
     out: &str,
     err: &str,
 ) -> Result<(), Fail> {
-    let code = if err.is_empty() { 0 } else { 1 };
     let case = Case {
         words: RUN,
         model: GATES,
+        other: b"",
         table,
-        code,
+        code: if err.is_empty() { 0 } else { 1 },
         out,
         err,
     };
-    ends_so(rt, alloc, &case, 0)
+    ends_so(rt, alloc, &case, NONE)
+}
+
+// The run of a model over a table without ticks ends with this refusal.
+fn model_ends_so(rt: &impl Abort, alloc: Global, model: &[u8], err: &str) -> Result<(), Fail> {
+    let case = Case {
+        words: RUN,
+        model,
+        other: b"",
+        table: b"time\n",
+        code: if err.is_empty() { 0 } else { 1 },
+        out: if err.is_empty() { "time\n" } else { "" },
+        err,
+    };
+    ends_so(rt, alloc, &case, NONE)
+}
+
+// A model of 524,288 bytes: behind the block stand blanks.
+fn longest_model(alloc: Global) -> Result<Text, Fail> {
+    let blanks = [b' '; 4096];
+    let mut model = Text::new(alloc);
+    model.push(b"block M end M;\n")?;
+    model.push(&blanks[..4081])?;
+    for _ in 0..127 {
+        model.push(&blanks)?;
+    }
+    Ok(model)
 }
 
 // A table of 33,554,432 bytes without a row: behind the header stand blank lines.
@@ -539,7 +611,7 @@ fn table_of_many_rows(alloc: Global) -> Result<Text, Fail> {
 fn jobs_end_so(rt: HostRuntime) -> Result<(), Fail> {
     let alloc = rt.alloc();
     for case in CASES.iter() {
-        ends_so(&rt, alloc, case, 0)?;
+        ends_so(&rt, alloc, case, NONE)?;
     }
     for (table, out, err) in TABLES.iter() {
         table_ends_so(&rt, alloc, table, out, err)?;
@@ -562,24 +634,63 @@ fn jobs_end_so(rt: HostRuntime) -> Result<(), Fail> {
         "",
         "t.csv:1000002:1: C66 too many ticks\n",
     )?;
-    for (model, is_one) in MODELS.iter() {
-        let case = Case {
-            words: RUN,
-            model,
-            table: b"time,u\n5,1\n",
-            code: if *is_one { 0 } else { 1 },
-            out: if *is_one { "time,y\n5,false\n" } else { "" },
-            err: if *is_one { "" } else { NO_MODEL },
-        };
-        ends_so(&rt, alloc, &case, 0)?;
+    let mut model = longest_model(alloc)?;
+    model_ends_so(&rt, alloc, model.bytes(), "")?;
+    model.push(b" ")?;
+    model_ends_so(
+        &rt,
+        alloc,
+        model.bytes(),
+        "m.mo:2:524274: C1 model file too long\n",
+    )
+}
+
+// Each file is begun, read, and read to its end; each record is written in pieces of at most 7 bytes.
+#[test]
+fn each_call_fails_in_turn(rt: HostRuntime) -> Result<(), Fail> {
+    let alloc = rt.alloc();
+    let mut case = TWO_MODELS;
+    ends_so(&rt, alloc, &case, Failing { files: 10, ..NONE })?;
+    ends_so(&rt, alloc, &case, Failing { out: 10, ..NONE })?;
+    case.code = 4;
+    case.out = "";
+    case.err = "read fault\n";
+    for call in 1..10 {
+        ends_so(
+            &rt,
+            alloc,
+            &case,
+            Failing {
+                files: call,
+                ..NONE
+            },
+        )?;
     }
-    let full = Case {
-        words: RUN,
-        model: GATES,
-        table: TABLE,
-        code: 5,
-        out: "time,y\n",
-        err: "write fault\n",
-    };
-    ends_so(&rt, alloc, &full, 2)
+    case.code = 5;
+    case.err = "";
+    ends_so(
+        &rt,
+        alloc,
+        &case,
+        Failing {
+            files: 1,
+            err: 1,
+            ..NONE
+        },
+    )?;
+    case.err = "write fault\n";
+    let fronts = [0, 7, 14, 15, 22, 25, 32, 35, 42];
+    for i in 0..9 {
+        case.out = &TRACE[..fronts[i]];
+        ends_so(
+            &rt,
+            alloc,
+            &case,
+            Failing {
+                out: i as u64 + 1,
+                ..NONE
+            },
+        )?;
+    }
+    Ok(())
 }

@@ -1,98 +1,166 @@
-// The trace of a block of logical gates over the rows of a table.
-ghost use Rattle.std.specs.Prelude.{◌≡◌, ◌≤◌, IfOk, IsErrOf, OnOk, OnErr};
+// Running a flat block over the rows of a table, record by record.
+ghost use Rattle.std.specs.Prelude.{◌≡◌, ◌<◌, ◌≤◌, IfOk, IfErr, OnOk, length};
 ghost use Rattle.cdl_source.specs.Causes.{Rose};
-ghost use Rattle.cdl_source.specs.Outside.{written_after};
-ghost use Rattle.cdl_source.specs.Whole.{WritesSome};
-ghost use Rattle.cdl_command.specs.Rows as spec;
-ghost use Rattle.cdl_command.specs.Runs.{HasItsOutputs, tick_text, trace_text};
-ghost use Rattle.cdl_command.specs.Tables.{columns_of};
+ghost use Rattle.cdl_table.specs.TableRow.{row_at};
+ghost use Rattle.cdl_table.specs.Values.{HaveValues};
+ghost use Rattle.cdl_command.specs.Ticks as spec;
+ghost use Rattle.cdl_command.specs.Ticks.{WroteTick, CutsTick, WroteRows, CutsRows, RunsRows};
+ghost use Rattle.cdl_command.specs.Runs.{path_of};
 
-use crate::model::GateBlock;
-use cdl_kinds::ValueType;
-use cdl_kinds::words::{bit, is_one};
-use cdl_source::{List, OutOfMemory, Sink, Text};
-use cdl_table::{Column, Table, TraceError, TraceWriter};
+use crate::outcome::Outcome;
+use cdl_flat::{Flat, RangeFault, Runner};
+use cdl_kinds::Steps;
+use cdl_source::{OutOfMemory, Sink, Text};
+use cdl_table::{Table, TraceError, TraceWriter};
 use std::alloc::Global;
+use std::marker::Brand;
+use std::sync::ledger::{Blank, Ledger};
 
-/// The columns of Boolean connectors with these names.
-pub(crate) fn boolean_columns(alloc: Global, names: &[Text]) -> Result<List<Column>, OutOfMemory>
-    ensures { IfOk result (λ columns. columns ≡ columns_of names.now) }
-{
-    let mut columns = List::new(alloc);
-    for name in names {
-        let mut copy = Text::new(alloc);
-        copy.push(name.bytes())?;
-        columns.push(Column {
-            name: copy,
-            kind: ValueType::Boolean,
-        })?;
-    }
-    Ok(columns)
+/// Why the ticks end before the last row.
+#[derive(Drop)]
+pub(crate) enum TickStop {
+    /// At this time the component of this path has the first fault.
+    RangeFault { time: i64, path: Text },
+    WriteFault,
+    OutOfMemory,
 }
 
-// The values of words.
-fn values_of(alloc: Global, words: &[i64]) -> Result<Vec<bool>, OutOfMemory>
-    ensures { IfOk result (λ values. values.items ≡ spec.values_of words.now) }
-{
-    let mut values = Vec::new(alloc);
-    for word in words {
-        values.push(is_one(*word))?;
+impl From<OutOfMemory> for TickStop {
+    ghost use Rattle.std.specs.Prelude.{◌≡◌};
+    ghost use Rattle.cdl_command.specs.declared.trace.TickStop.TheVariants.{OutOfMemory as no_memory};
+
+    ghost from_gives = { λ _ e. e ≡ no_memory };
+
+    fn from(_: OutOfMemory) -> Self {
+        TickStop::OutOfMemory
     }
-    Ok(values)
 }
 
-// The words of values.
-fn words_of(alloc: Global, values: &[bool]) -> Result<Vec<i64>, OutOfMemory>
-    ensures { IfOk result (λ words. words.items ≡ spec.words_of values.now) }
+// The path of a component of the root.
+fn path_of(alloc: Global, name: &Text) -> Result<Text, OutOfMemory>
+    ensures { IfOk result (λ path. path ≡ path_of name.now) }
 {
-    let mut words = Vec::new(alloc);
-    for value in values {
-        words.push(bit(*value))?;
-    }
-    Ok(words)
+    let mut path = Text::new(alloc);
+    path.push(b"#")?;
+    path.push(name.bytes())?;
+    Ok(path)
 }
 
-// Writes the record of one tick, with these words of the inputs.
-fn write_tick<O: Sink>(
+fn faulted(alloc: Global, time: i64, name: &Text) -> TickStop
+    ensures { spec.IsFaulted time name.now result }
+{
+    match path_of(alloc, name) {
+        Ok(path) => TickStop::RangeFault { time, path },
+        Err(OutOfMemory) => TickStop::OutOfMemory,
+    }
+}
+
+impl From<TraceError> for TickStop {
+    ghost use Rattle.std.specs.Prelude.{◌≡◌};
+    ghost use Rattle.cdl_command.specs.Ticks.{stop_of};
+
+    ghost from_gives = { λ t e. e ≡ stop_of t };
+
+    fn from(e: TraceError) -> Self {
+        match e {
+            TraceError::WriteFault => TickStop::WriteFault,
+            TraceError::OutOfMemory => TickStop::OutOfMemory,
+        }
+    }
+}
+
+// Runs the tick of the row of that number, and writes its record.
+fn write_tick<O: Sink, L: Ledger>(
     alloc: Global,
-    block: &GateBlock,
-    time: i64,
-    words: &[i64],
+    runner: &mut Runner<'_>,
+    table: &Table,
+    number: usize,
     writer: &mut TraceWriter,
     out: &mut O,
-) -> Result<(), TraceError>
-    requires outputs { HasItsOutputs block.now }
-    requires writer { writer.old ≡ columns_of block.now.declared.outputs }
-    ensures ok { OnOk result (O.written out.new ≡ written_after (O.written out.old) (tick_text block.now time words.now)) }
-    ensures err { OnErr result (WritesSome (O.written out.old) (O.written out.new) (tick_text block.now time words.now)) }
+    steps: &mut Steps<L>,
+) -> Result<(), TickStop>
+    requires within { number < length table.now }
+    requires values { HaveValues runner.old.block.declared.inputs table.now }
+    requires writer { writer.old ≡ runner.old.block.declared.outputs }
+    ensures block { runner.new.block ≡ runner.old.block }
     ensures kept { writer.new ≡ writer.old }
+    ensures ok { OnOk result (WroteTick runner.old.block (row_at table.now number) (O.written out.old) (O.written out.new)) }
+    ensures err { IfErr result (CutsTick runner.old.block (row_at table.now number) (O.written out.old) (O.written out.new) (Rose (O.faults out.old) (O.faults out.new))) }
     ensures later { O.faults out.old ≤ O.faults out.new }
-    ensures fault { IsErrOf result TraceError.WriteFault → Rose (O.faults out.old) (O.faults out.new) }
 {
-    let inputs = values_of(alloc, words)?;
-    let values = block.circuit.output_values(alloc, &inputs)?;
-    let outputs = words_of(alloc, &values)?;
-    writer.row(time, &outputs, out)
+    let time = table.time(number);
+    match runner.tick(time, table.row(number), steps) {
+        Ok(()) => {
+            writer.row(time, runner.outputs(), out)?;
+            Ok(())
+        }
+        Err(RangeFault { component }) => Err(faulted(
+            alloc,
+            time,
+            runner.component(component as usize),
+        )),
+    }
 }
 
-/// Writes the trace of the rows of a table, record by record.
-pub(crate) fn write_trace<O: Sink>(
+// Writes the records of the rows.
+fn write_rows<O: Sink, L: Ledger>(
     alloc: Global,
-    block: &GateBlock,
+    runner: &mut Runner<'_>,
     table: &Table,
+    writer: &mut TraceWriter,
     out: &mut O,
-) -> Result<(), TraceError>
-    requires outputs { HasItsOutputs block.now }
-    ensures ok { OnOk result (O.written out.new ≡ written_after (O.written out.old) (trace_text block.now table.now)) }
-    ensures err { OnErr result (WritesSome (O.written out.old) (O.written out.new) (trace_text block.now table.now)) }
+    blank: Blank,
+) -> Result<(), TickStop>
+    requires name { blank.name ≡ L.name }
+    requires parts { blank.parts ≡ L.parts }
+    requires some { 0 < blank.parts }
+    requires values { HaveValues runner.old.block.declared.inputs table.now }
+    requires writer { writer.old ≡ runner.old.block.declared.outputs }
+    ensures ok { OnOk result (WroteRows runner.old.block table.now (O.written out.old) (O.written out.new)) }
+    ensures err { IfErr result (CutsRows runner.old.block table.now (O.written out.old) (O.written out.new) (Rose (O.faults out.old) (O.faults out.new))) }
     ensures later { O.faults out.old ≤ O.faults out.new }
-    ensures fault { IsErrOf result TraceError.WriteFault → Rose (O.faults out.old) (O.faults out.new) }
 {
-    let columns = boolean_columns(alloc, block.declared.outputs())?;
-    let mut writer = TraceWriter::new(alloc, columns)?;
-    writer.header(out)?;
-    for i in 0..table.rows() {
-        write_tick(alloc, block, table.time(i), table.row(i), &mut writer, out)?;
+    let mut steps = Steps::<L>::new(blank);
+    for number in 0..table.rows() {
+        write_tick(alloc, runner, table, number, writer, out, &mut steps)?;
     }
     Ok(())
+}
+
+// Writes the header and the records.
+fn write_all<O: Sink>(
+    alloc: Global,
+    flat: Flat<'_>,
+    table: &Table,
+    out: &mut O,
+) -> Result<(), TickStop>
+    requires values { HaveValues flat.declared.inputs table.now }
+    ensures ok { OnOk result (spec.WroteTrace flat.entry table.now (O.written out.old) (O.written out.new)) }
+    ensures err { IfErr result (spec.CutsTrace flat.entry table.now (O.written out.old) (O.written out.new) (Rose (O.faults out.old) (O.faults out.new))) }
+    ensures later { O.faults out.old ≤ O.faults out.new }
+{
+    let outputs = flat.copy_outputs(alloc)?;
+    let mut writer = TraceWriter::new(alloc, outputs)?;
+    let mut runner = Runner::start(alloc, flat)?;
+    writer.header(out)?;
+    write_rows::<O, Brand>(alloc, &mut runner, table, &mut writer, out, Blank::new(1))
+}
+
+/// Runs the ticks of a table, and writes the trace record by record.
+pub(crate) fn write_trace<O: Sink>(
+    alloc: Global,
+    flat: Flat<'_>,
+    table: &Table,
+    out: &mut O,
+) -> Outcome
+    requires values { HaveValues flat.declared.inputs table.now }
+    ensures runs { RunsRows flat.entry table.now (O.written out.old) (O.written out.new) (Rose (O.faults out.old) (O.faults out.new)) result }
+    ensures later { O.faults out.old ≤ O.faults out.new }
+{
+    match write_all(alloc, flat, table, out) {
+        Ok(()) => Outcome::Done,
+        Err(TickStop::RangeFault { time, path }) => Outcome::RangeFault { time, path },
+        Err(TickStop::WriteFault) => Outcome::WriteFault,
+        Err(TickStop::OutOfMemory) => Outcome::OutOfMemory,
+    }
 }

@@ -1,22 +1,16 @@
 use Rattle.std.proofs.Common.{sym}
 use Rattle.cdl_source.specs.Causes.{Rose}
 use Rattle.cdl_command.specs.Job.{task_of_job}
-use Rattle.cdl_command.proofs.AnswerFacts.{after_report, due_is_done}
+use Rattle.cdl_command.proofs.AnswerFacts.{after_report}
 use Rattle.cdl_command.proofs.DueFacts.{due_files}
 use Rattle.cdl_command.proofs.top.command.Goals as goal
 
 pub work-outcome-requires-clause-due : goal.work-outcome-requires-clause-due
-work-outcome-requires-clause-due g c = due_files _ _ _ c.requires.due (sym c.in-Some.ensures)
+work-outcome-requires-clause-due g c = due_files _ _ _ c.requires.due (sym c.in-Some.ensures.task)
 
 pub returns-in-Some-clause-out : goal.returns-in-Some-clause-out
 returns-in-Some-clause-out g c =
-    rw (← c.in-Some.ensures)
-    (after_report (task_of_job c.in-Some.job) (g.F.Files.contents c.args.files.now) 1 1 c.work-outcome.result c.report.result
+    rw (← c.in-Some.ensures.task)
+    (after_report (task_of_job c.in-Some.job) (g.F.Files.contents c.args.files.now) c.work-outcome.result.line c.work-outcome.result.column c.work-outcome.result.outcome c.report.result
     (g.O.Sink.written c.args.out.now) (g.O.Sink.written c.work-outcome.new.out) (g.E.Sink.written c.args.err.now) (g.E.Sink.written c.report.new.err)
     (Rose (g.E.Sink.faults c.args.err.now) (g.E.Sink.faults c.report.new.err)) c.report.ensures.told c.work-outcome.ensures.works.out)
-
-pub returns-in-Some-clause-ends : goal.returns-in-Some-clause-ends
-returns-in-Some-clause-ends g c = λ done.
-    c.work-outcome.ensures.ends
-    (due_is_done (task_of_job c.in-Some.job) 1 1 c.work-outcome.result c.report.result (g.E.Sink.written c.args.err.now) (g.E.Sink.written c.report.new.err)
-    (Rose (g.E.Sink.faults c.args.err.now) (g.E.Sink.faults c.report.new.err)) c.report.ensures.told done)
