@@ -55,6 +55,7 @@ impl MemSink {
         self.failing.fail(call)
     }
 
+    /// The bytes written so far, lent.
     pub fn bytes(&self) -> &[u8]
         ensures { result.now ≡ self.now.bytes }
     {
