@@ -1,7 +1,10 @@
 pub mod formers
+pub mod inner
 pub mod Causes
 pub mod Outside
 pub mod Whole
 pub mod Faults
 pub mod Memory
+pub mod Host
+pub mod Identifiers
 pub mod Place

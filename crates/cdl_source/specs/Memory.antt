@@ -1,25 +1,22 @@
 -- Files and a sink in memory: what contracts see of them, and what each call does.
-use Rattle.std.specs.Prelude.{not, ◌++◌, take, ◌==◌, ◌&&◌, ◌-◌, ℕ, ◌+◌, min, Bool, ◌||◌, List, [], ◌∷◌, length, drop, Option, Some, None, is_none, unwrap_or, if◌then◌else◌, slice_get}
-use Rattle.std.specs.Option.{option_map_or}
-use Rattle.cdl_source.specs.Faults.{CallFaults, fails_next, calls_after}
+use Rattle.std.specs.Prelude.{not, ◌++◌, take, ◌==◌, ◌-◌, ℕ, ◌+◌, min, Bool, ◌&&◌, ◌||◌, List, [], ◌∷◌, length, drop, Some, None, is_none, unwrap_or, if◌then◌else◌}
 use Rattle.std.specs.Str.{bytes_eq}
+use Rattle.cdl_source.specs.Faults.{CallFaults, fails_next, calls_after}
+use Rattle.cdl_source.specs.Outside.{Contents}
 use Rattle.cdl_source.specs.declared.mem_files.Named.{Named}
 
--- the bytes that were put last under a name; the newest stands first
-abbrev pub contents_of : List Named → List ℕ → Option (List ℕ)
+-- the bytes of each name, by the first file of that name
+abbrev pub contents_of : List Named → Contents
 contents_of [] name = None
 contents_of (f ∷ fs) name = if bytes_eq f.name name then Some f.bytes else contents_of fs name
 
--- what is left of the file that was begun last
-abbrev pub rest_of : List Named → Option ℕ → ℕ → List ℕ
-rest_of files None at = []
-rest_of files (Some i) at = option_map_or (λ f. drop at f.bytes) (slice_get files i) []
-
--- the files in memory
+-- Files in memory: the bytes of each name, what is left of the file that was begun last, the number of begins, the most
+-- bytes that one read gives, and the calls.
 pub record Store : Type 0 where
   pub files : List Named
   pub rest : List ℕ
   pub begun : ℕ
+  pub most : ℕ
   pub calls : CallFaults
 
 abbrev pub begin_fails : Store → List ℕ → Bool
@@ -31,12 +28,13 @@ store_begun m name =
       files = m.files;
       rest = if begin_fails m name then [] else unwrap_or (contents_of m.files name) [];
       begun = m.begun + 1;
+      most = m.most;
       calls = calls_after m.calls (begin_fails m name);
     }
 
 -- how many bytes the next read gives where it does not fail
 abbrev pub read_count : Store → ℕ → ℕ
-read_count m room = min (length m.rest) room
+read_count m room = min (min (length m.rest) room) m.most
 
 abbrev pub store_read : Store → ℕ → Store
 store_read m room =
@@ -44,15 +42,16 @@ store_read m room =
       files = m.files;
       rest = if fails_next m.calls then m.rest else drop (read_count m room) m.rest;
       begun = m.begun;
+      most = m.most;
       calls = calls_after m.calls (fails_next m.calls);
     }
 
--- the store with one more file, of which nothing was begun
+-- with one more file, of which nothing was begun
 abbrev pub store_with : Store → List ℕ → List ℕ → Store
 store_with m name bytes =
-    record { files = record { name = name; bytes = bytes } ∷ m.files; rest = []; begun = m.begun; calls = m.calls }
+    record { files = record { name = name; bytes = bytes } ∷ m.files; rest = []; begun = m.begun; most = m.most; calls = m.calls }
 
--- A sink in memory: its bytes, the most that one write takes, the room for all of them, and the calls that fail.
+-- A sink in memory: its bytes, the most that one write takes, the room for all of them, and the calls.
 pub record Tray : Type 0 where
   pub bytes : List ℕ
   pub most : ℕ

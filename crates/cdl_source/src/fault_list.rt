@@ -1,6 +1,6 @@
 // Which calls of an object in memory fail.
 ghost use Rattle.std.specs.Prelude.{◌≡◌, ◌||◌, [], OnOk, OnErr, ◌≤◌};
-ghost use Rattle.std.specs.Bool.{OnTrue};
+ghost use Rattle.std.specs.Bool.{OnTrue, OnFalse};
 ghost use Rattle.cdl_source.specs.Causes.{Rose};
 ghost use Rattle.cdl_source.specs.Faults.{calls_after, calls_with, fails_next};
 
@@ -45,12 +45,20 @@ impl FaultList {
         Ok(())
     }
 
+    /// The number of calls so far, counted up to 2^64 - 1.
+    pub fn calls(&self) -> u64
+        ensures { result ≡ self.now.calls }
+    {
+        self.calls
+    }
+
     /// Counts one more call. True: it fails, and its fault is counted.
     pub fn count(&mut self, fails_anyway: bool) -> bool
         ensures fails { result ≡ (fails_next self.old || fails_anyway) }
         ensures after { self.new ≡ calls_after self.old result }
         ensures later { self.old.faults ≤ self.new.faults }
         ensures rose { OnTrue result (Rose self.old.faults self.new.faults) }
+        ensures kept { OnFalse result (self.new.faults ≡ self.old.faults) }
     {
         self.calls = self.calls.saturating_add(1);
         let fails = self.failing.contains(&self.calls) || fails_anyway;

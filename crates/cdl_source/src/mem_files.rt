@@ -1,10 +1,9 @@
 // Files in memory, for tests.
-ghost use Rattle.std.specs.Prelude.{◌≡◌, ◌+◌, ◌-◌, ◌^◌, ◌<◌, ◌∷◌, [], ◌++◌, None, Some, ℕ, List, min, length, take, drop, OnOk, OnErr, IfOk, is_err, MatchOption, slice_get};
-ghost use Rattle.std.specs.Option.{option_map, option_map_or};
+ghost use Rattle.std.specs.Prelude.{◌≡◌, ◌+◌, ◌-◌, ◌^◌, ◌<◌, ◌≤◌, [], None, Some, length, OnOk, OnErr, IfOk, IsErr, is_err};
 ghost use Rattle.std.specs.Io.{ReadsAtMost};
 ghost use Rattle.std.specs.Io.KnownBytes.{ReadConsumes};
 ghost use Rattle.cdl_source.specs.Causes.{HasCause};
-ghost use Rattle.cdl_source.specs.Outside.{BeginsAt};
+ghost use Rattle.cdl_source.specs.Outside.{BeginsAt, IsAbsent};
 
 use crate::fault_list::FaultList;
 use crate::mem_reads::{copy_front, find, left_of};
@@ -19,7 +18,7 @@ pub(crate) struct Named {
     pub(crate) bytes: Text,
 }
 
-/// Files in memory. The calls whose numbers are given to `fail` fail.
+/// Files in memory. A read gives at most as many bytes as `piece` says. The calls whose numbers are given to `fail` fail.
 #[derive(Debug, Drop)]
 pub struct MemFiles {
     alloc: Global,
@@ -27,24 +26,29 @@ pub struct MemFiles {
     current: Option<usize>,
     at: usize,
     begun: u64,
+    most: usize,
     failing: FaultList,
 }
 
 impl Model for MemFiles {
-    ghost use Rattle.cdl_source.specs.Memory.{Store, rest_of};
+    ghost use Rattle.std.specs.Prelude.{◌≤◌};
+    ghost use Rattle.cdl_source.specs.Memory.{Store};
+    ghost use Rattle.cdl_source.specs.inner.Stored.{rest_of};
 
     ghost Value = { Store };
 
-    ghost view = { λ m. record { files = m.files.items; rest = rest_of m.files.items m.current m.at; begun = m.begun; calls = m.failing } };
+    ghost view = { λ m. record { files = m.files.items; rest = rest_of m.files.items m.current m.at; begun = m.begun; most = m.most; calls = m.failing } };
+
+    ghost invariant = { λ m. 1 ≤ m.most };
 }
 
 impl MemFiles {
-    ghost use Rattle.cdl_source.specs.Memory.{store_with, contents_of};
+    ghost use Rattle.cdl_source.specs.Memory.{store_with};
     ghost use Rattle.cdl_source.specs.Faults.{calls_with};
 
     /// No files. It takes no memory.
     pub fn new(alloc: Global) -> MemFiles
-        ensures { result ≡ record { files = []; rest = []; begun = 0; calls = record { calls = 0; failing = []; faults = 0 } } }
+        ensures { result ≡ record { files = []; rest = []; begun = 0; most = usize.MAX; calls = record { calls = 0; failing = []; faults = 0 } } }
     {
         MemFiles {
             alloc,
@@ -52,6 +56,7 @@ impl MemFiles {
             current: None,
             at: 0,
             begun: 0,
+            most: usize::MAX,
             failing: FaultList::new(alloc),
         }
     }
@@ -65,6 +70,21 @@ impl MemFiles {
         self.files.insert(0, named)?;
         self.current = None;
         Ok(())
+    }
+
+    /// From now on a read gives at most so many bytes.
+    pub fn piece(&mut self, most: usize)
+        requires { 1 ≤ most }
+        ensures { self.new ≡ record self.old { most = most } }
+    {
+        self.most = most;
+    }
+
+    /// How many calls of `begin` and `read` there were, counted up to 2^64 - 1.
+    pub fn calls(&self) -> u64
+        ensures { result ≡ self.now.calls.calls }
+    {
+        self.failing.calls()
     }
 
     /// The call of this number fails: `begin` and `read` are counted together, from 1.
@@ -93,7 +113,7 @@ impl Files for MemFiles {
     ghost use Rattle.cdl_source.specs.Memory.{contents_of, begin_fails, store_begun, read_count, store_read};
     ghost use Rattle.cdl_source.specs.Faults.{fails_next};
 
-    ghost contents = { λ m. contents_of m.files };
+    ghost contents = { λ m. Some (contents_of m.files) };
 
     ghost rest = { λ m. Some m.rest };
 
@@ -107,6 +127,7 @@ impl Files for MemFiles {
         requires { self.old.begun < 2 ^ 64 - 1 }
         ensures fails { is_err result ≡ begin_fails self.old name.now }
         ensures after { self.new ≡ store_begun self.old name.now }
+        ensures absent { IsAbsent (Some (contents_of self.old.files)) name.now → IsErr result }
         ensures rest { OnOk result (BeginsAt (contents_of self.old.files name.now) (Some self.new.rest)) }
         ensures cause { HasCause self.old.calls.faults self.new.calls.faults result }
     {
@@ -132,7 +153,8 @@ impl Files for MemFiles {
         if self.failing.count(false) {
             return Err(Failed);
         }
-        let count = copy_front(left_of(&self.files, self.current, self.at), into);
+        let left = left_of(&self.files, self.current, self.at);
+        let count = copy_front(left, into, self.most);
         self.at += count;
         Ok(count)
     }

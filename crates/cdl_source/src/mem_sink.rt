@@ -55,7 +55,14 @@ impl MemSink {
         self.failing.fail(call)
     }
 
-    /// The bytes written so far, lent.
+    /// How many writes there were, counted up to 2^64 - 1.
+    pub fn calls(&self) -> u64
+        ensures { result ≡ self.now.calls.calls }
+    {
+        self.failing.calls()
+    }
+
+    /// The bytes that it has taken, in the order in which they came, lent.
     pub fn bytes(&self) -> &[u8]
         ensures { result.now ≡ self.now.bytes }
     {

@@ -1,0 +1,5 @@
+//! Tests of cdl_source by its public calls.
+#![tactic(auto)]
+
+#[cfg(test)]
+mod tests;
