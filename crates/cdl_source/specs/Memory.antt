@@ -1,5 +1,7 @@
 -- Files and a sink in memory: what contracts see of them, and what each call does.
 use Rattle.std.specs.Prelude.{not, ◌++◌, take, ◌==◌, ◌-◌, ℕ, ◌+◌, min, Bool, ◌&&◌, ◌||◌, List, [], ◌∷◌, length, drop, Some, None, is_none, unwrap_or, if◌then◌else◌}
+use Rattle.std.specs.Cmp.Lexicographic.{slice_cmp}
+use Rattle.std.specs.Ordering.{nat_cmp, is_lt}
 use Rattle.std.specs.Str.{bytes_eq}
 use Rattle.cdl_source.specs.Faults.{CallFaults, fails_next, calls_after}
 use Rattle.cdl_source.specs.Outside.{Contents}
@@ -10,7 +12,15 @@ abbrev pub contents_of : List Named → Contents
 contents_of [] name = None
 contents_of (f ∷ fs) name = if bytes_eq f.name name then Some f.bytes else contents_of fs name
 
--- Files in memory: the bytes of each name, what is left of the file that was begun last, the number of begins, the most
+-- with these bytes under this name, in place of what stood there; names rise, where they are compared byte by byte
+abbrev pub files_with : List Named → List ℕ → List ℕ → List Named
+files_with [] name bytes = record { name = name; bytes = bytes } ∷ []
+files_with (f ∷ fs) name bytes =
+    if bytes_eq f.name name then record { name = name; bytes = bytes } ∷ fs
+    else if is_lt (slice_cmp nat_cmp name f.name) then record { name = name; bytes = bytes } ∷ f ∷ fs
+    else f ∷ files_with fs name bytes
+
+-- Files in memory: the files in the order of their names, what is left of the file that was begun last, the number of begins, the most
 -- bytes that one read gives, and the calls.
 pub record Store : Type 0 where
   pub files : List Named
@@ -46,10 +56,10 @@ store_read m room =
       calls = calls_after m.calls (fails_next m.calls);
     }
 
--- with one more file, of which nothing was begun
+-- with these bytes under this name; nothing is left of the file that was begun last
 abbrev pub store_with : Store → List ℕ → List ℕ → Store
 store_with m name bytes =
-    record { files = record { name = name; bytes = bytes } ∷ m.files; rest = []; begun = m.begun; most = m.most; calls = m.calls }
+    record { files = files_with m.files name bytes; rest = []; begun = m.begun; most = m.most; calls = m.calls }
 
 -- A sink in memory: its bytes, the most that one write takes, the room for all of them, and the calls.
 pub record Tray : Type 0 where

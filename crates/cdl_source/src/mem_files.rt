@@ -33,11 +33,11 @@ pub struct MemFiles {
 impl Model for MemFiles {
     ghost use Rattle.std.specs.Prelude.{◌≤◌};
     ghost use Rattle.cdl_source.specs.Memory.{Store};
-    ghost use Rattle.cdl_source.specs.inner.Stored.{rest_of};
+    ghost use Rattle.cdl_source.specs.inner.Stored.{listed, rest_of};
 
     ghost Value = { Store };
 
-    ghost view = { λ m. record { files = m.files.items; rest = rest_of m.files.items m.current m.at; begun = m.begun; most = m.most; calls = m.failing } };
+    ghost view = { λ m. record { files = listed m.files.items; rest = rest_of m.files.items m.current m.at; begun = m.begun; most = m.most; calls = m.failing } };
 
     ghost invariant = { λ m. 1 ≤ m.most };
 }
