@@ -1,29 +1,22 @@
 -- Files and a sink in memory: what contracts see of them, and what each call does.
-use Rattle.std.specs.Prelude.{not, ◌++◌, take, ◌==◌, ◌-◌, ℕ, ◌+◌, min, Bool, ◌&&◌, ◌||◌, List, [], ◌∷◌, length, drop, Some, None, is_none, unwrap_or, if◌then◌else◌}
+use Rattle.std.specs.Prelude.{not, ◌++◌, take, ◌==◌, ◌-◌, ℕ, ◌+◌, min, Bool, ◌&&◌, ◌||◌, List, [], length, drop, is_none, unwrap_or, if◌then◌else◌}
 use Rattle.std.specs.Cmp.Lexicographic.{slice_cmp}
-use Rattle.std.specs.Ordering.{nat_cmp, is_lt}
-use Rattle.std.specs.Str.{bytes_eq}
+use Rattle.std.specs.FinMap.{FinMap, get, insert}
+use Rattle.std.specs.Ordering.{nat_cmp}
 use Rattle.cdl_source.specs.Faults.{CallFaults, fails_next, calls_after}
 use Rattle.cdl_source.specs.Outside.{Contents}
-use Rattle.cdl_source.specs.declared.mem_files.Named.{Named}
 
--- the bytes of each name, by the first file of that name
-abbrev pub contents_of : List Named → Contents
-contents_of [] name = None
-contents_of (f ∷ fs) name = if bytes_eq f.name name then Some f.bytes else contents_of fs name
+-- the bytes of each name, each name once
+abbrev pub Folder : Type 0
+Folder = FinMap (slice_cmp nat_cmp) (List ℕ)
 
--- with these bytes under this name, in place of what stood there; names rise, where they are compared byte by byte
-abbrev pub files_with : List Named → List ℕ → List ℕ → List Named
-files_with [] name bytes = record { name = name; bytes = bytes } ∷ []
-files_with (f ∷ fs) name bytes =
-    if bytes_eq f.name name then record { name = name; bytes = bytes } ∷ fs
-    else if is_lt (slice_cmp nat_cmp name f.name) then record { name = name; bytes = bytes } ∷ f ∷ fs
-    else f ∷ files_with fs name bytes
+abbrev pub contents_of : Folder → Contents
+contents_of files name = get files name
 
--- Files in memory: the files in the order of their names, what is left of the file that was begun last, the number of begins, the most
+-- Files in memory: the bytes of each name, what is left of the file that was begun last, the number of begins, the most
 -- bytes that one read gives, and the calls.
 pub record Store : Type 0 where
-  pub files : List Named
+  pub files : Folder
   pub rest : List ℕ
   pub begun : ℕ
   pub most : ℕ
@@ -59,7 +52,7 @@ store_read m room =
 -- with these bytes under this name; nothing is left of the file that was begun last
 abbrev pub store_with : Store → List ℕ → List ℕ → Store
 store_with m name bytes =
-    record { files = files_with m.files name bytes; rest = []; begun = m.begun; most = m.most; calls = m.calls }
+    record { files = insert m.files name bytes; rest = []; begun = m.begun; most = m.most; calls = m.calls }
 
 -- A sink in memory: its bytes, the most that one write takes, the room for all of them, and the calls.
 pub record Tray : Type 0 where

@@ -33,9 +33,12 @@ pub struct MemFiles {
 impl Model for MemFiles {
     ghost use Rattle.std.specs.Prelude.{◌≤◌};
     ghost use Rattle.cdl_source.specs.Memory.{Store};
+    ghost use Rattle.cdl_source.specs.inner.Codes.{store_code};
     ghost use Rattle.cdl_source.specs.inner.Stored.{listed, rest_of};
 
     ghost Value = { Store };
+
+    ghost coded = { store_code };
 
     ghost view = { λ m. record { files = listed m.files.items; rest = rest_of m.files.items m.current m.at; begun = m.begun; most = m.most; calls = m.failing } };
 
@@ -43,12 +46,13 @@ impl Model for MemFiles {
 }
 
 impl MemFiles {
+    ghost use Rattle.std.specs.FinMap.{empty};
     ghost use Rattle.cdl_source.specs.Memory.{store_with};
     ghost use Rattle.cdl_source.specs.Faults.{calls_with};
 
     /// No files. It takes no memory.
     pub fn new(alloc: Global) -> MemFiles
-        ensures { result ≡ record { files = []; rest = []; begun = 0; most = usize.MAX; calls = record { calls = 0; failing = []; faults = 0 } } }
+        ensures { result ≡ record { files = empty; rest = []; begun = 0; most = usize.MAX; calls = record { calls = 0; failing = []; faults = 0 } } }
     {
         MemFiles {
             alloc,

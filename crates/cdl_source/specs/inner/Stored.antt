@@ -1,13 +1,21 @@
--- The files that a store in memory keeps.
-use Rattle.std.specs.Prelude.{ℕ, List, [], ◌∷◌, drop, Option, Some, None, slice_get}
+-- The files that a store in memory keeps, latest first.
+use Rattle.std.specs.Prelude.{ℕ, List, [], ◌∷◌, drop, Option, Some, None, if◌then◌else◌, slice_get}
+use Rattle.std.specs.FinMap.{empty, insert}
 use Rattle.std.specs.Option.{option_map_or}
-use Rattle.cdl_source.specs.Memory.{files_with}
+use Rattle.std.specs.Str.{bytes_eq}
+use Rattle.cdl_source.specs.Memory.{Folder}
+use Rattle.cdl_source.specs.Outside.{Contents}
 use Rattle.cdl_source.specs.declared.mem_files.Named.{Named}
 
--- files that were put one before another, as a store tells them
-abbrev pub listed : List Named → List Named
-listed [] = []
-listed (f ∷ fs) = files_with (listed fs) f.name f.bytes
+-- the files as a store tells them
+abbrev pub listed : List Named → Folder
+listed [] = empty
+listed (f ∷ fs) = insert (listed fs) f.name f.bytes
+
+-- the bytes of the first file of each name
+abbrev pub first_of : List Named → Contents
+first_of [] name = None
+first_of (f ∷ fs) name = if bytes_eq name f.name then Some f.bytes else first_of fs name
 
 -- what is left of the file that was begun last
 abbrev pub rest_of : List Named → Option ℕ → ℕ → List ℕ
