@@ -39,6 +39,14 @@ place_none (n ∷ m ∷ []) (i ∷ j ∷ l ∷ is) h = refl
 place_none (n ∷ m ∷ p ∷ s) (i ∷ is) h = refl
 place_none _ _ h = absurd (omega arith)
 
+pub place_many : (s is : List ℕ) → 2 < length is → place s is ≡ None
+unfolding place
+place_many [] (i ∷ is) h = refl
+place_many (n ∷ []) (i ∷ j ∷ is) h = refl
+place_many (n ∷ m ∷ []) (i ∷ j ∷ l ∷ is) h = refl
+place_many (n ∷ m ∷ p ∷ s) (i ∷ is) h = refl
+place_many _ _ h = absurd (omega arith)
+
 pub place_past : (s is : List ℕ) → length s < length is → place (take (length is) s) is ≡ None
 place_past s is h =
     let all : length s ≤ length is = omega arith in

@@ -106,9 +106,11 @@ fn are_subscripts(subs: &[Array]) -> bool
 
 // Where the item of these subscripts stands.
 fn place_of(shape: &[u32], subs: &[Array]) -> Option<usize>
-    requires { length subs.now ≤ 2 }
     ensures { result ≡ spec.place_of shape.now subs.now }
 {
+    if subs.len() > 2 {
+        return None;
+    }
     match subs {
         [] => place(shape, &[]),
         [index] => place(shape, &[index_of(index)]),
@@ -139,7 +141,6 @@ fn item(alloc: Global, array: &Array, at: Option<usize>) -> Result<Array, EvalFa
 /// The item of an array at these subscripts, as a scalar. They are as many as the array has dimensions, each a scalar (C25);
 /// then each is an Integer (C26); then each is from 1 to the size of its dimension (C30).
 pub fn subscript(alloc: Global, array: &Array, subs: &[Array]) -> Result<Array, EvalFault>
-    requires { IsArray array.now }
     ensures { Answers (spec.subscript array.now subs.now) result }
 {
     let shape = array.shape.items();
