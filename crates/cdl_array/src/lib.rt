@@ -6,6 +6,7 @@ mod arithmetic;
 mod comparison;
 mod fault;
 mod functions;
+mod laws;
 mod literals;
 mod numbers;
 mod operators;
@@ -16,6 +17,7 @@ mod types;
 
 pub use fault::EvalFault;
 pub use functions::{Function, call};
+pub use laws::arrays_make_arrays;
 pub use literals::literal;
 pub use operators::{binary, condition, decided, unary};
 pub use parts::{part, subscript};
