@@ -18,7 +18,9 @@ use Rattle.cdl_array.specs.declared.numbers.Numbers.{Numbers}
 use Rattle.cdl_array.specs.declared.numbers.Numbers.TheVariants.{Integers, Reals}
 use Rattle.cdl_array.specs.declared.functions.Function.{Function}
 use Rattle.cdl_array.specs.declared.functions.Function.TheVariants.{Abs, Min, Max, Sum, Size, Fill, Floor}
-use Rattle.cdl_array.specs.Outcomes.{Outcome, wrong_shape, wrong_type, size_out_of_range, no_value}
+use Rattle.cdl_source.specs.declared.limits.TheConstants.{MOST_ITEMS}
+use Rattle.cdl_source.specs.declared.rules.TheConstants.{WRONG_SHAPE, WRONG_TYPE, SIZE_OUT_OF_RANGE, NO_VALUE}
+use Rattle.cdl_array.specs.Outcomes.{Outcome}
 use Rattle.cdl_array.specs.Scalars.{scalar_of}
 use Rattle.cdl_array.specs.Numbers.{millionths, numbers_of}
 use Rattle.cdl_array.specs.Sizes.{size_of, count_of}
@@ -57,12 +59,12 @@ floor_sound _ v h e = cc
 
 dimension_sound : (shape : List ℕ) (x v : Value) → dimension_value shape x ≡ Ok v → IsSound v
 unfolding dimension_value
-dimension_sound shape (Integer z) v e = let n = some_gives (dimension shape z) wrong_shape _ v e in integer_sound (pos n.0) v n.2
+dimension_sound shape (Integer z) v e = let n = some_gives (dimension shape z) WRONG_SHAPE _ v e in integer_sound (pos n.0) v n.2
 dimension_sound shape _ v e = cc
 
 scalar_array : (f : Value → Outcome Value) (a c : Array) → ((x v : Value) → IsSound x → f x ≡ Ok v → IsSound v) → IsArray a → of_scalar f a ≡ Ok c → IsArray c
 scalar_array f a c s h e =
-    let x = some_gives (scalar_of a) wrong_shape _ c e in
+    let x = some_gives (scalar_of a) WRONG_SHAPE _ c e in
     made (f x.0) c (λ v. s x.0 v (scalar_value a x.0 h x.1)) x.2
 
 -- two numbers that are in range
@@ -89,8 +91,8 @@ chosen_sound false (Reals a b) h = grind (arith, ints)
 
 two_array : (greatest : Bool) (a b c : Array) → IsArray a → IsArray b → of_two (chosen greatest) a b ≡ Ok c → IsArray c
 two_array greatest a b c h k e =
-    let x = some_gives (scalar_of a) wrong_shape _ c e in
-    let y = some_gives (scalar_of b) wrong_shape _ c x.2 in
+    let x = some_gives (scalar_of a) WRONG_SHAPE _ c e in
+    let y = some_gives (scalar_of b) WRONG_SHAPE _ c x.2 in
     let n = then_gives (numbers_of x.0 y.0) _ c y.2 in
     given _ c n.2 (scalar_is (chosen greatest n.0) (chosen_sound greatest n.0 (numbers_sound x.0 y.0 n.0 (scalar_value a x.0 h x.1) (scalar_value b y.0 k y.1) n.1)))
 
@@ -98,7 +100,7 @@ two_array greatest a b c h k e =
 shape_array : (t : ValueType) (v : Value) (shape : List ℕ) (c : Array) → IsOf t v → length shape ≤ 2 → filled_shape t v shape ≡ Ok c → IsArray c
 shape_array t v shape c h few e =
     let n = then_gives (count_of shape) _ c e in
-    let m = holds_gives (nat_le (items_of shape) 65536) size_out_of_range (Ok (items_of shape)) n.0 n.1 in
+    let m = holds_gives (nat_le (items_of shape) MOST_ITEMS) SIZE_OUT_OF_RANGE (Ok (items_of shape)) n.0 n.1 in
     let q : items_of shape ≡ n.0 = let r = m.1 in cc in
     given _ c n.2 (record { sizes = few; count = length-replicate n.0 v ∙ sym q; each = All-replicate (IsOf t) n.0 v h })
 
@@ -108,13 +110,13 @@ scalar_of_type a v h e = first_is (IsOf a.kind) a.shape a.items v h.each e
 
 filled_row_array : (x n c : Array) → IsArray x → filled_row x n ≡ Ok c → IsArray c
 filled_row_array x n c h e =
-    let v = some_gives (scalar_of x) wrong_shape _ c e in
+    let v = some_gives (scalar_of x) WRONG_SHAPE _ c e in
     let s = then_gives (size_of n) _ c v.2 in
     shape_array x.kind v.0 (s.0 ∷ []) c (scalar_of_type x v.0 h v.1) (omega arith) s.2
 
 filled_rows_array : (x n m c : Array) → IsArray x → filled_rows x n m ≡ Ok c → IsArray c
 filled_rows_array x n m c h e =
-    let v = some_gives (scalar_of x) wrong_shape _ c e in
+    let v = some_gives (scalar_of x) WRONG_SHAPE _ c e in
     let r = then_gives (size_of n) _ c v.2 in
     let s = then_gives (size_of m) _ c r.2 in
     shape_array x.kind v.0 (r.0 ∷ s.0 ∷ []) c (scalar_of_type x v.0 h v.1) (omega arith) s.2
@@ -140,10 +142,10 @@ at_all P (x ∷ xs) (suc i) v h e = at_all P xs i v (All-tail P x xs h) e
 
 pub subscript_array : (a : Array) (subs : List Array) (c : Array) → IsArray a → subscript a subs ≡ Ok c → IsArray c
 subscript_array a subs c h e =
-    let s = holds_gives (length subs == length a.shape && are_scalars subs) wrong_shape _ c e in
-    let t = holds_gives (are_subscripts subs) wrong_type _ c s.1 in
-    let k = some_gives (place_of a.shape subs) no_value _ c t.1 in
-    let v = some_gives (slice_get a.items k.0) no_value _ c k.2 in
+    let s = holds_gives (length subs == length a.shape && are_scalars subs) WRONG_SHAPE _ c e in
+    let t = holds_gives (are_subscripts subs) WRONG_TYPE _ c s.1 in
+    let k = some_gives (place_of a.shape subs) NO_VALUE _ c t.1 in
+    let v = some_gives (slice_get a.items k.0) NO_VALUE _ c k.2 in
     given _ c v.2 (record { sizes = omega arith; count = refl; each = All-cons (IsOf a.kind) v.0 [] (at_all (IsOf a.kind) a.items k.0 v.0 h.each v.1) (All-nil (IsOf a.kind)) })
 
 pub part_array : (a : Array) (is : List ℕ) (c : Array) → IsArray a → part a is ≡ Ok c → IsArray c
@@ -151,7 +153,7 @@ part_array a is c h e =
     let n = length is in
     let rest = drop n a.shape in
     let r = items_of rest in
-    let k = some_gives (place (take n a.shape) is) wrong_shape _ c e in
+    let k = some_gives (place (take n a.shape) is) WRONG_SHAPE _ c e in
     let fits : k.0 * r + r ≤ length a.items = part_fits a (take n a.shape) rest is k.0 r h (take-append-drop n a.shape) k.1 refl in
     let few : length rest ≤ 2 = omega (arith, length-drop n a.shape, h.sizes) in
     let long : length (take (k.0 * r + r - k.0 * r) (drop (k.0 * r) a.items)) ≡ r = length-take-le (k.0 * r + r - k.0 * r) (drop (k.0 * r) a.items) (omega (arith, length-drop (k.0 * r) a.items)) ∙ omega arith in

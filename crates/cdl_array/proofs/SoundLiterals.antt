@@ -13,7 +13,9 @@ use Rattle.std.specs.List.{All, list_all}
 use Rattle.std.proofs.lemmas.List.{length-map, length-append}
 use Rattle.std.proofs.lemmas.List.Elements.{All-nil, All-cons, All-head, All-tail, All-weaker, All-map, All-append}
 use Rattle.std.proofs.lemmas.Slice.Eq.{bytes_eq-Decides}
-use Rattle.cdl_array.specs.Outcomes.{wrong_shape, wrong_type, size_out_of_range, holds_or}
+use Rattle.cdl_source.specs.declared.limits.TheConstants.{LARGEST_SIZE}
+use Rattle.cdl_source.specs.declared.rules.TheConstants.{WRONG_SHAPE, WRONG_TYPE, SIZE_OUT_OF_RANGE}
+use Rattle.cdl_array.specs.Outcomes.{holds_or}
 use Rattle.cdl_array.specs.Sizes.{count_of}
 use Rattle.cdl_array.specs.Types.{same_type, is_number, is_integer, is_real, have_type, are_numbers, common_type, value_as, values_as, converted}
 use Rattle.cdl_array.specs.Literals.{have_shape, items_as, literal_like, literal}
@@ -65,10 +67,10 @@ all_from : (p : Array → Bool) (P : Array → Type 0) → ((a : Array) → p a 
 all_from p P f [] e = All-nil P
 all_from p P f (x ∷ xs) e = let b = both (p x) (list_all p xs) e in All-cons P x xs (f x b.0) (all_from p P f xs b.1)
 
-common_cases : (same : Bool) (first t : ValueType) (xs : List Array) → (same ≡ true → All (Becomes first) xs) → cond same (Ok first) (holds_or (are_numbers xs) wrong_type (Ok RealType)) ≡ Ok t → All (Becomes t) xs
+common_cases : (same : Bool) (first t : ValueType) (xs : List Array) → (same ≡ true → All (Becomes first) xs) → cond same (Ok first) (holds_or (are_numbers xs) WRONG_TYPE (Ok RealType)) ≡ Ok t → All (Becomes t) xs
 common_cases true first t xs f e = let q : first ≡ t = cc in subst (λ (u : ValueType). All (Becomes u) xs) q (f refl)
 common_cases false first t xs f e =
-    let n = holds_gives (are_numbers xs) wrong_type (Ok RealType) t e in
+    let n = holds_gives (are_numbers xs) WRONG_TYPE (Ok RealType) t e in
     let q : RealType ≡ t = let r = n.1 in cc in
     subst (λ (u : ValueType). All (Becomes u) xs) q (all_from (λ a. is_number a.kind) (Becomes RealType) number_becomes xs n.0)
 
@@ -97,10 +99,10 @@ items_long t shape (x ∷ xs) h e =
 
 like_array : (first : ValueType) (shape : List ℕ) (xs : List Array) (c : Array) → All IsArray xs → literal_like first shape xs ≡ Ok c → IsArray c
 like_array first shape xs c h e =
-    let s = holds_gives (nat_le (length shape) 1 && have_shape shape xs) wrong_shape _ c e in
+    let s = holds_gives (nat_le (length shape) 1 && have_shape shape xs) WRONG_SHAPE _ c e in
     let b = both (nat_le (length shape) 1) (have_shape shape xs) s.0 in
     let t = then_gives (common_type first xs) _ c s.1 in
-    let k = holds_gives (nat_le (length xs) 4096) size_out_of_range _ c t.2 in
+    let k = holds_gives (nat_le (length xs) LARGEST_SIZE) SIZE_OUT_OF_RANGE _ c t.2 in
     let n = then_gives (count_of (length xs ∷ shape)) _ c k.1 in
     let few : length shape ≤ 1 = let f = b.0 in grind (arith, nat_tests) in
     given _ c n.2 (record { sizes = omega arith; count = items_long t.0 shape xs h b.1; each = items_each t.0 xs h (common_becomes first t.0 xs t.1) })
@@ -120,11 +122,11 @@ unfolding is_real
 real_becomes RealType a e n = number_becomes a n
 real_becomes _ a e n = cc
 
-converted_cases : (same : Bool) (t : ValueType) (a c : Array) → IsArray a → cond same (Ok a) (holds_or (is_integer a.kind) wrong_type (holds_or (is_real t) wrong_type (Ok (record { kind = t; shape = a.shape; items = values_as t a.items })))) ≡ Ok c → IsArray c
+converted_cases : (same : Bool) (t : ValueType) (a c : Array) → IsArray a → cond same (Ok a) (holds_or (is_integer a.kind) WRONG_TYPE (holds_or (is_real t) WRONG_TYPE (Ok (record { kind = t; shape = a.shape; items = values_as t a.items })))) ≡ Ok c → IsArray c
 converted_cases true t a c h e = given a c e h
 converted_cases false t a c h e =
-    let i = holds_gives (is_integer a.kind) wrong_type _ c e in
-    let r = holds_gives (is_real t) wrong_type _ c i.1 in
+    let i = holds_gives (is_integer a.kind) WRONG_TYPE _ c e in
+    let r = holds_gives (is_real t) WRONG_TYPE _ c i.1 in
     given _ c r.1 (record { sizes = h.sizes; count = rw length-map h.count; each = values_each t a h (real_becomes t a r.0 (integer_is_number a.kind i.0)) })
 
 pub converted_array : (t : ValueType) (a c : Array) → IsArray a → converted t a ≡ Ok c → IsArray c

@@ -16,7 +16,8 @@ use Rattle.cdl_tree.specs.declared.expr.Op.{Op}
 use Rattle.cdl_tree.specs.declared.expr.Op.TheVariants.{Plus, Minus, Times, Divide, Less, LessEqual, Greater, GreaterEqual, Equal, NotEqual, And, Or, Not}
 use Rattle.cdl_array.specs.declared.numbers.Numbers.{Numbers}
 use Rattle.cdl_array.specs.declared.numbers.Numbers.TheVariants.{Integers, Reals}
-use Rattle.cdl_array.specs.Outcomes.{Outcome, wrong_shape, no_value, then_to, some_or, holds_or}
+use Rattle.cdl_source.specs.declared.rules.TheConstants.{WRONG_SHAPE, NO_VALUE}
+use Rattle.cdl_array.specs.Outcomes.{Outcome, then_to, some_or, holds_or}
 use Rattle.cdl_array.specs.Scalars.{first_without_sizes, scalar_of, scalar, type_of}
 use Rattle.cdl_array.specs.Numbers.{millionths, is_less, is_less_or_equal, is_greater, is_greater_or_equal, numbers_of, integer_value, real_value, sum_of, difference_of, product_of, quotient_of}
 use Rattle.cdl_array.specs.Operators.{truth, are_equal, conjunction, disjunction, binary_value, binary, unary_value, unary}
@@ -59,7 +60,7 @@ holds_gives true r o a e = (refl, e)
 holds_gives false r o a e = cc
 
 -- an Integer and a Real that are in range
-bounded : (b : Bool) (z : ℤ) (v : Value) → (b ≡ true → unsigned_abs z ≤ 2147483647) → some_or (cond b (Some z) None) no_value (λ n. Ok (Integer n)) ≡ Ok v → IsSound v
+bounded : (b : Bool) (z : ℤ) (v : Value) → (b ≡ true → unsigned_abs z ≤ 2147483647) → some_or (cond b (Some z) None) NO_VALUE (λ n. Ok (Integer n)) ≡ Ok v → IsSound v
 bounded true z v h e = let q : Integer z ≡ v = cc in subst IsSound q (h refl)
 bounded false z v h e = cc
 
@@ -152,13 +153,13 @@ made (Err r) c h e = cc
 
 pub binary_array : (op : Op) (a b c : Array) → binary op a b ≡ Ok c → IsArray c
 binary_array op a b c e =
-    let x = some_gives (scalar_of a) wrong_shape _ c e in
-    let y = some_gives (scalar_of b) wrong_shape _ c x.2 in
+    let x = some_gives (scalar_of a) WRONG_SHAPE _ c e in
+    let y = some_gives (scalar_of b) WRONG_SHAPE _ c x.2 in
     made (binary_value op x.0 y.0) c (binary_sound op x.0 y.0) y.2
 
 pub unary_array : (op : Op) (a c : Array) → IsArray a → unary op a ≡ Ok c → IsArray c
 unary_array op a c h e =
-    let x = some_gives (scalar_of a) wrong_shape _ c e in
+    let x = some_gives (scalar_of a) WRONG_SHAPE _ c e in
     made (unary_value op x.0) c (λ v. unary_sound op x.0 v (scalar_value a x.0 h x.1)) x.2
 
 -- an outcome that is an array is that one

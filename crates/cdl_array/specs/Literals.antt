@@ -5,7 +5,9 @@ use Rattle.std.specs.Str.{bytes_eq}
 use Rattle.cdl_kinds.specs.declared.value.Array.{Array}
 use Rattle.cdl_kinds.specs.declared.value.Value.{Value}
 use Rattle.cdl_kinds.specs.declared.value.ValueType.{ValueType}
-use Rattle.cdl_array.specs.Outcomes.{Outcome, wrong_shape, size_out_of_range, then_to, holds_or}
+use Rattle.cdl_source.specs.declared.limits.TheConstants.{LARGEST_SIZE}
+use Rattle.cdl_source.specs.declared.rules.TheConstants.{WRONG_SHAPE, SIZE_OUT_OF_RANGE}
+use Rattle.cdl_array.specs.Outcomes.{Outcome, then_to, holds_or}
 use Rattle.cdl_array.specs.Sizes.{count_of}
 use Rattle.cdl_array.specs.Types.{common_type, values_as}
 
@@ -25,11 +27,11 @@ counted t shape arrays =
 -- dimension, of one shape; then all have one type, or are numbers; then there are at most 4096, of 65,536 items together.
 abbrev pub literal_like : ValueType → List ℕ → List Array → Outcome Array
 literal_like first shape arrays =
-    holds_or (nat_le (length shape) 1 && have_shape shape arrays) wrong_shape
+    holds_or (nat_le (length shape) 1 && have_shape shape arrays) WRONG_SHAPE
     (then_to (common_type first arrays) (λ t.
-    holds_or (nat_le (length arrays) 4096) size_out_of_range (counted t shape arrays)))
+    holds_or (nat_le (length arrays) LARGEST_SIZE) SIZE_OUT_OF_RANGE (counted t shape arrays)))
 
 -- no items have no shape
 abbrev pub literal : List Array → Outcome Array
-literal [] = Err wrong_shape
+literal [] = Err WRONG_SHAPE
 literal (a ∷ more) = literal_like a.kind a.shape (a ∷ more)

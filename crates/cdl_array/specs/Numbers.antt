@@ -9,7 +9,8 @@ use Rattle.cdl_kinds.specs.declared.value.Value.{Value}
 use Rattle.cdl_kinds.specs.declared.value.Value.TheVariants.{Integer, Real}
 use Rattle.cdl_array.specs.declared.numbers.Numbers.{Numbers}
 use Rattle.cdl_array.specs.declared.numbers.Numbers.TheVariants.{Integers, Reals}
-use Rattle.cdl_array.specs.Outcomes.{Outcome, wrong_type, no_value, some_or}
+use Rattle.cdl_source.specs.declared.rules.TheConstants.{WRONG_TYPE, NO_VALUE}
+use Rattle.cdl_array.specs.Outcomes.{Outcome, some_or}
 
 -- the count of a whole number as a Real
 abbrev pub millionths : ℤ → ℤ
@@ -21,14 +22,14 @@ numbers_of (Integer a) (Integer b) = Ok (Integers a b)
 numbers_of (Integer a) (Real b) = Ok (Reals (millionths a) b)
 numbers_of (Real a) (Integer b) = Ok (Reals a (millionths b))
 numbers_of (Real a) (Real b) = Ok (Reals a b)
-numbers_of _ _ = Err wrong_type
+numbers_of _ _ = Err WRONG_TYPE
 
 -- an Integer, and a Real, if there is one in range
 abbrev pub integer_value : ℤ → Outcome Value
-integer_value z = some_or (in_integer_range z) no_value (λ n. Ok (Integer n))
+integer_value z = some_or (in_integer_range z) NO_VALUE (λ n. Ok (Integer n))
 
 abbrev pub real_value : Option ℤ → Outcome Value
-real_value x = some_or x no_value (λ n. Ok (Real n))
+real_value x = some_or x NO_VALUE (λ n. Ok (Real n))
 
 -- the sum, the difference and the product are of the type of the operands, the quotient is a Real
 unfoldable pub sum_of : Numbers → Outcome Value

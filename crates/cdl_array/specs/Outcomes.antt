@@ -6,22 +6,6 @@ use Rattle.cdl_array.specs.declared.fault.EvalFault.TheVariants.{Rule, OutOfMemo
 abbrev pub Outcome : Type 0 → Type 0
 Outcome A = Result A ℕ
 
--- the rules, by their numbers
-abbrev pub wrong_shape : ℕ
-wrong_shape = 25
-
-abbrev pub wrong_type : ℕ
-wrong_type = 26
-
-abbrev pub unknown_name : ℕ
-unknown_name = 27
-
-abbrev pub size_out_of_range : ℕ
-size_out_of_range = 28
-
-abbrev pub no_value : ℕ
-no_value = 30
-
 -- what comes behind a first thing, or the rule that this breaks
 abbrev pub then_to : {A B : Type 0} → Outcome A → (A → Outcome B) → Outcome B
 then_to (Ok a) f = f a

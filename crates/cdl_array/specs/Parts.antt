@@ -5,7 +5,8 @@ use Rattle.cdl_kinds.specs.Values.{items_of}
 use Rattle.cdl_kinds.specs.declared.value.Array.{Array}
 use Rattle.cdl_kinds.specs.declared.value.Value.{Value}
 use Rattle.cdl_kinds.specs.declared.value.Value.TheVariants.{Integer}
-use Rattle.cdl_array.specs.Outcomes.{Outcome, wrong_shape, wrong_type, no_value, some_or, holds_or}
+use Rattle.cdl_source.specs.declared.rules.TheConstants.{WRONG_SHAPE, WRONG_TYPE, NO_VALUE}
+use Rattle.cdl_array.specs.Outcomes.{Outcome, some_or, holds_or}
 use Rattle.cdl_array.specs.Scalars.{scalar_of}
 
 -- an index of this size
@@ -58,13 +59,13 @@ place_of shape subs = place shape (map index_of subs)
 
 -- one item, as a scalar
 abbrev pub item : Array → Option ℕ → Outcome Array
-item a at = some_or at no_value (λ k. some_or (slice_get a.items k) no_value (λ v. Ok (record { kind = a.kind; shape = []; items = v ∷ [] })))
+item a at = some_or at NO_VALUE (λ k. some_or (slice_get a.items k) NO_VALUE (λ v. Ok (record { kind = a.kind; shape = []; items = v ∷ [] })))
 
 -- an array with subscripts: as many as it has dimensions, each a scalar; then each an Integer; then each in range
 abbrev pub subscript : Array → List Array → Outcome Array
 subscript a subs =
-    holds_or (length subs == length a.shape && are_scalars subs) wrong_shape
-    (holds_or (are_subscripts subs) wrong_type
+    holds_or (length subs == length a.shape && are_scalars subs) WRONG_SHAPE
+    (holds_or (are_subscripts subs) WRONG_TYPE
     (item a (place_of a.shape subs)))
 
 -- of values in stretches of so many, the one at that place
@@ -76,4 +77,4 @@ stretch values at count = slice_range values (at * count) (at * count + count)
 abbrev pub part : Array → List ℕ → Outcome Array
 part a is =
     let rest = drop (length is) a.shape in
-    some_or (place (take (length is) a.shape) is) wrong_shape (λ k. Ok (record { kind = a.kind; shape = rest; items = stretch a.items k (items_of rest) }))
+    some_or (place (take (length is) a.shape) is) WRONG_SHAPE (λ k. Ok (record { kind = a.kind; shape = rest; items = stretch a.items k (items_of rest) }))

@@ -6,7 +6,8 @@ use Rattle.cdl_kinds.specs.declared.value.Value.{Value}
 use Rattle.cdl_kinds.specs.declared.value.Value.TheVariants.{Integer, Real}
 use Rattle.cdl_kinds.specs.declared.value.ValueType.{ValueType}
 use Rattle.cdl_kinds.specs.declared.value.ValueType.TheVariants.{Boolean as BooleanType, Integer as IntegerType, Real as RealType, Str as StrType, Enumeration as EnumerationType}
-use Rattle.cdl_array.specs.Outcomes.{Outcome, wrong_type, holds_or}
+use Rattle.cdl_source.specs.declared.rules.TheConstants.{WRONG_TYPE}
+use Rattle.cdl_array.specs.Outcomes.{Outcome, holds_or}
 use Rattle.cdl_array.specs.Numbers.{millionths}
 
 unfoldable pub same_type : ValueType → ValueType → Bool
@@ -39,7 +40,7 @@ are_numbers arrays = list_all (λ a. is_number a.kind) arrays
 
 -- the type of arrays together, of which the first has this type: the one type that they have, or Real where all are numbers
 unfoldable pub common_type : ValueType → List Array → Outcome ValueType
-common_type t arrays = cond (have_type t arrays) (Ok t) (holds_or (are_numbers arrays) wrong_type (Ok RealType))
+common_type t arrays = cond (have_type t arrays) (Ok t) (holds_or (are_numbers arrays) WRONG_TYPE (Ok RealType))
 
 -- a value as one of this type: an Integer as a Real, any other as it is
 unfoldable pub value_as : ValueType → Value → Value
@@ -52,4 +53,4 @@ values_as t vs = map (value_as t) vs
 -- an array where this type is declared: as it is, or Integers as Reals
 abbrev pub converted : ValueType → Array → Outcome Array
 converted t a = cond (same_type a.kind t) (Ok a)
-    (holds_or (is_integer a.kind) wrong_type (holds_or (is_real t) wrong_type (Ok (record { kind = t; shape = a.shape; items = values_as t a.items }))))
+    (holds_or (is_integer a.kind) WRONG_TYPE (holds_or (is_real t) WRONG_TYPE (Ok (record { kind = t; shape = a.shape; items = values_as t a.items }))))

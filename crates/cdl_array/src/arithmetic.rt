@@ -2,16 +2,17 @@
 ghost use Rattle.std.specs.Prelude.{◌≡◌};
 ghost use Rattle.cdl_array.specs.Numbers as spec;
 
-use crate::fault::NO_VALUE;
 use crate::numbers::{Numbers, real_of};
 use cdl_decimal::Real;
 use cdl_kinds::Value;
+use cdl_source::LARGEST_INTEGER;
+use cdl_source::rules::NO_VALUE;
 
 // The Integer, if it is in range.
 pub(crate) fn integer_value(whole: i128) -> Result<Value, u32>
     ensures { result ≡ spec.integer_value whole }
 {
-    if -2_147_483_647 <= whole && whole <= 2_147_483_647 {
+    if -(LARGEST_INTEGER as i128) <= whole && whole <= LARGEST_INTEGER as i128 {
         Ok(Value::Integer(whole as i32))
     } else {
         Err(NO_VALUE)

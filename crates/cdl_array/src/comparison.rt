@@ -3,9 +3,9 @@ ghost use Rattle.std.specs.Prelude.{◌≡◌};
 ghost use Rattle.cdl_array.specs.Numbers as spec;
 ghost use Rattle.cdl_array.specs.Operators as operators;
 
-use crate::fault::WRONG_TYPE;
 use crate::numbers::{Numbers, numbers_of};
 use cdl_kinds::Value;
+use cdl_source::rules::WRONG_TYPE;
 
 pub(crate) fn is_less(numbers: Numbers) -> bool
     ensures { result ≡ spec.is_less numbers }

@@ -4,17 +4,6 @@ ghost use Rattle.cdl_array.specs.declared.fault.EvalFault.TheVariants.{OutOfMemo
 
 use cdl_source::OutOfMemory;
 
-/// The shape is wrong.
-pub const WRONG_SHAPE: u32 = 25;
-/// The type is wrong.
-pub const WRONG_TYPE: u32 = 26;
-/// A name or a function is unknown.
-pub const UNKNOWN_NAME: u32 = 27;
-/// A size is out of range.
-pub const SIZE_OUT_OF_RANGE: u32 = 28;
-/// There is no value.
-pub const NO_VALUE: u32 = 30;
-
 /// Why an expression is worth nothing.
 #[derive(Clone, Copy, Debug, PartialEq, Eq)]
 pub enum EvalFault {

@@ -9,14 +9,15 @@ ghost use Rattle.cdl_array.specs.Numbers as pairs;
 ghost use Rattle.cdl_array.specs.Functions as spec;
 
 use crate::arithmetic::{integer_value, real_value};
-use crate::fault::{EvalFault, NO_VALUE, UNKNOWN_NAME, WRONG_SHAPE, WRONG_TYPE};
+use crate::fault::EvalFault;
 use crate::numbers::{Numbers, numbers_of};
 use crate::scalars::{scalar, scalar_if, scalar_of};
 use crate::sizes::{count_of, size_of};
 use crate::types::{copy_shape, is_number};
 use cdl_decimal::Real;
 use cdl_kinds::{Array, Value, ValueType};
-use cdl_source::{List, OutOfMemory};
+use cdl_source::rules::{NO_VALUE, UNKNOWN_NAME, WRONG_SHAPE, WRONG_TYPE};
+use cdl_source::{LARGEST_REAL, List, OutOfMemory};
 use std::alloc::Global;
 
 /// The functions.
@@ -89,7 +90,7 @@ impl Function {
 fn real_of_count(count: i128) -> Option<Real>
     ensures { result ≡ in_range count }
 {
-    if -10_000_000_000_000_000 <= count && count <= 10_000_000_000_000_000 {
+    if -(LARGEST_REAL as i128) <= count && count <= LARGEST_REAL as i128 {
         Real::from_count(count as i64)
     } else {
         None

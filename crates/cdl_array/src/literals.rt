@@ -3,11 +3,12 @@ ghost use Rattle.std.specs.Prelude.{◌≡◌, ◌≤◌, ◌∷◌, length, IfO
 ghost use Rattle.cdl_array.specs.Outcomes.{Answers};
 ghost use Rattle.cdl_array.specs.Literals as spec;
 
-use crate::fault::{EvalFault, SIZE_OUT_OF_RANGE, WRONG_SHAPE};
+use crate::fault::EvalFault;
 use crate::sizes::count_of;
 use crate::types::{common_type, push_as};
 use cdl_kinds::{Array, Value, ValueType};
-use cdl_source::{List, OutOfMemory};
+use cdl_source::rules::{SIZE_OUT_OF_RANGE, WRONG_SHAPE};
+use cdl_source::{LARGEST_SIZE, List, OutOfMemory};
 use std::alloc::Global;
 
 fn have_shape(shape: &[u32], arrays: &[Array]) -> bool
@@ -50,7 +51,7 @@ fn rows(
     shape: &[u32],
     arrays: &[Array],
 ) -> Result<Array, EvalFault>
-    requires few { length arrays.now ≤ 4096 }
+    requires few { length arrays.now ≤ LARGEST_SIZE }
     requires flat { length shape.now ≤ 1 }
     ensures { Answers (spec.counted value_type shape.now arrays.now) result }
 {
@@ -95,7 +96,7 @@ fn literal_like(
         Ok(value_type) => value_type,
         Err(rule) => return Err(EvalFault::Rule(rule)),
     };
-    if arrays.len() > 4096 {
+    if arrays.len() > LARGEST_SIZE as usize {
         return Err(EvalFault::Rule(SIZE_OUT_OF_RANGE));
     }
     rows(alloc, value_type, shape, arrays)

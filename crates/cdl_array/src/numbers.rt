@@ -1,8 +1,8 @@
+use cdl_source::rules::WRONG_TYPE;
 // Pairs of numbers of one type.
 ghost use Rattle.std.specs.Prelude.{◌≡◌};
 ghost use Rattle.cdl_array.specs.Numbers.{millionths, numbers_of};
 
-use crate::fault::WRONG_TYPE;
 use cdl_decimal::Real;
 use cdl_kinds::Value;
 

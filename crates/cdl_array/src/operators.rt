@@ -7,10 +7,11 @@ use crate::arithmetic::{
     difference_of, integer_value, product_of, quotient_of, real_value, sum_of,
 };
 use crate::comparison::{are_equal, is_greater, is_greater_or_equal, is_less, is_less_or_equal};
-use crate::fault::{EvalFault, WRONG_SHAPE, WRONG_TYPE};
+use crate::fault::EvalFault;
 use crate::numbers::{numbers_of, real_of};
 use crate::scalars::{scalar_if, scalar_of};
 use cdl_kinds::{Array, Value};
+use cdl_source::rules::{WRONG_SHAPE, WRONG_TYPE};
 use cdl_tree::Op;
 use std::alloc::Global;
 

@@ -5,11 +5,12 @@ ghost use Rattle.cdl_kinds.specs.Values.{IsArray, items_of};
 ghost use Rattle.cdl_array.specs.Outcomes.{Answers};
 ghost use Rattle.cdl_array.specs.Parts as spec;
 
-use crate::fault::{EvalFault, NO_VALUE, WRONG_SHAPE, WRONG_TYPE};
+use crate::fault::EvalFault;
 use crate::scalars::scalar_of;
 use crate::sizes::items_of;
 use crate::types::copy_shape;
 use cdl_kinds::{Array, Value};
+use cdl_source::rules::{NO_VALUE, WRONG_SHAPE, WRONG_TYPE};
 use cdl_source::{List, OutOfMemory};
 use std::alloc::Global;
 

@@ -4,9 +4,11 @@ ghost use Rattle.cdl_kinds.specs.Values.{items_of};
 ghost use Rattle.cdl_array.specs.Outcomes.{Answers};
 ghost use Rattle.cdl_array.specs.Sizes as spec;
 
-use crate::fault::{EvalFault, SIZE_OUT_OF_RANGE, WRONG_SHAPE, WRONG_TYPE};
+use crate::fault::EvalFault;
 use crate::scalars::scalar_of;
 use cdl_kinds::{Array, Value};
+use cdl_source::rules::{SIZE_OUT_OF_RANGE, WRONG_SHAPE, WRONG_TYPE};
+use cdl_source::{LARGEST_SIZE, MOST_ITEMS};
 
 // The size that a value is.
 #[tactic(auto, unfolding(crate::specs::Sizes::size_value))]
@@ -15,7 +17,7 @@ fn size_value(value: &Value) -> Result<u32, u32>
 {
     match value {
         Value::Integer(z) => {
-            if 0 <= *z && *z <= 4096 {
+            if 0 <= *z && *z <= LARGEST_SIZE as i32 {
                 Ok(z.unsigned_abs())
             } else {
                 Err(SIZE_OUT_OF_RANGE)
@@ -57,7 +59,7 @@ pub fn count_of(shape: &[u32]) -> Result<usize, EvalFault>
     ensures { Answers (spec.count_of shape.now) result }
 {
     let count = items_of(shape);
-    if count <= 65_536 {
+    if count <= MOST_ITEMS as usize {
         Ok(count)
     } else {
         Err(EvalFault::Rule(SIZE_OUT_OF_RANGE))

@@ -3,9 +3,10 @@ ghost use Rattle.std.specs.Prelude.{◌≡◌, ◌++◌, OnOk, IfOk};
 ghost use Rattle.cdl_array.specs.Outcomes.{Answers};
 ghost use Rattle.cdl_array.specs.Types as spec;
 
-use crate::fault::{EvalFault, WRONG_TYPE};
+use crate::fault::EvalFault;
 use crate::numbers::real_of;
 use cdl_kinds::{Array, Value, ValueType};
+use cdl_source::rules::WRONG_TYPE;
 use cdl_source::{List, OutOfMemory};
 use std::alloc::Global;
 
