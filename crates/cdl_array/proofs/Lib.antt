@@ -1,0 +1,5 @@
+pub mod Places
+pub mod Extremes
+pub mod SoundValues
+pub mod SoundFunctions
+pub mod SoundLiterals

@@ -1,0 +1,9 @@
+pub mod Outcomes
+pub mod Scalars
+pub mod Numbers
+pub mod Operators
+pub mod Types
+pub mod Sizes
+pub mod Literals
+pub mod Parts
+pub mod Functions
