@@ -28,6 +28,3 @@ pub use scalar::Scalar;
 pub use sources::{Choice, Constant, IntegerToReal, RealToInteger, Replicator};
 pub use sums::{IntegerSum, RealSum};
 pub use whole::Whole;
-
-#[cfg(test)]
-mod tests;

@@ -1,7 +1,7 @@
 use Rattle.std.proofs.Common.{ℕ, ◌<◌, ◌≤◌}
 use Rattle.cdl_kinds.specs.History.{IsValue, word}
 use Rattle.cdl_kinds.specs.Ports.{inputs}
-use Rattle.cdl_blocks.proofs.tests.are_ready.Given as goal
+use Rattle.cdl_block_tests.proofs.blocks.are_ready.Given as goal
 
 abbrev pub invariant-loop-i : goal.invariant-loop-i
 invariant-loop-i l = record {

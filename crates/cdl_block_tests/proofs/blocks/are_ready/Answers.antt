@@ -1,7 +1,7 @@
 use Rattle.std.proofs.Common.{◌<◌, arith, below_more}
 use Rattle.cdl_kinds.specs.History.{IsValue, word}
 use Rattle.cdl_kinds.specs.Ports.{inputs}
-use Rattle.cdl_blocks.proofs.tests.are_ready.Goals as goal
+use Rattle.cdl_block_tests.proofs.blocks.are_ready.Goals as goal
 
 pub loop-i-preserved : goal.loop-i-preserved
 loop-i-preserved c =

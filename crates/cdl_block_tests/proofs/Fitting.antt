@@ -10,7 +10,7 @@ use Rattle.cdl_kinds.specs.declared.value.Value.TheVariants.{Integer}
 use Rattle.cdl_kinds.specs.declared.value.ValueType.{ValueType}
 use Rattle.cdl_kinds.specs.declared.value.ValueType.TheVariants.{Integer as IntegerType, Real as RealType}
 use Rattle.cdl_kinds.specs.declared.kind.Kind.TheVariants.{IntegersMultiSum, RealsMultiSum}
-use Rattle.cdl_kinds.specs.Conditions.{Fits, FitRows, FitsRow, HasShape}
+use Rattle.cdl_kinds.specs.Conditions.{Fits, FitRows, FitsRow, HasShape, is_count}
 use Rattle.cdl_kinds.specs.declared.parameter.Parameter.{Parameter}
 use Rattle.cdl_kinds.specs.Parameters.{ParameterRow, row_of}
 use Rattle.cdl_kinds.specs.Values.{IsOf}
@@ -45,27 +45,30 @@ scalars_more nin rows i d v a w l h f e =
     let m : map row_of (take (suc i) rows) ≡ map row_of (take i rows) ++ row_of (get_or rows i d) ∷ [] = ap (map row_of) t ∙ map-append row_of (take i rows) (get_or rows i d ∷ []) in
     rw (add-one, e, m) (one_more nin (map row_of (take i rows)) v (row_of (get_or rows i d)) a h f)
 
-count_each : (n : ℤ) → unsigned_abs n ≤ 2147483647 → All (IsOf IntegerType) (Integer n ∷ [])
-count_each n h zero d l = h
-count_each n h (suc k) d l = absurd (omega arith)
+count_each : (z : ℤ) → unsigned_abs z ≤ 2147483647 → All (IsOf IntegerType) (Integer z ∷ [])
+count_each z h zero d l = h
+count_each z h (suc k) d l = absurd (omega arith)
 
-pub integer_sum_fits : (t : ValueType) (n : ℤ) (m : ℕ) (xs : List Value) → t ≡ IntegerType → n ≡ pos m → m ≤ 256 → length xs ≡ m → All (IsOf t) xs
-    → Fits IntegersMultiSum (record { kind = IntegerType; shape = []; items = Integer n ∷ [] } ∷ record { kind = t; shape = m ∷ []; items = xs } ∷ [])
-integer_sum_fits t n m xs e p s c h = rw p (record {
-  rows = (
-    record { sort = refl; shape = refl; array = record { sizes = omega arith; count = refl; each = count_each (pos m) (omega arith) } },
-    (record { sort = e; shape = λ _. refl; array = record { sizes = omega arith; count = omega arith; each = h } }, tt),
-  );
-})
+same_shape : (z : ℤ) (m : ℕ) → (is_count z ≡ true → m ≡ unsigned_abs z) → is_count z ≡ true → m ∷ [] ≡ unsigned_abs z ∷ []
+same_shape z m f h = ap (λ (k : ℕ). k ∷ []) (f h)
 
-pub real_sum_fits : (t : ValueType) (n : ℤ) (m : ℕ) (xs : List Value) → t ≡ RealType → n ≡ pos m → m ≤ 256 → length xs ≡ m → All (IsOf t) xs
-    → Fits RealsMultiSum (record { kind = IntegerType; shape = []; items = Integer n ∷ [] } ∷ record { kind = t; shape = m ∷ []; items = xs } ∷ [])
-real_sum_fits t n m xs e p s c h = rw p (record {
+pub integer_sum_fits : (t : ValueType) (z : ℤ) (m : ℕ) (xs : List Value) → t ≡ IntegerType → unsigned_abs z ≤ 2147483647 → (is_count z ≡ true → m ≡ unsigned_abs z) → length xs ≡ m → All (IsOf t) xs
+    → Fits IntegersMultiSum (record { kind = IntegerType; shape = []; items = Integer z ∷ [] } ∷ record { kind = t; shape = m ∷ []; items = xs } ∷ [])
+integer_sum_fits t z m xs e s f c h = record {
   rows = (
-    record { sort = refl; shape = refl; array = record { sizes = omega arith; count = refl; each = count_each (pos m) (omega arith) } },
-    (record { sort = e; shape = λ _. refl; array = record { sizes = omega arith; count = omega arith; each = h } }, tt),
+    record { sort = refl; shape = refl; array = record { sizes = omega arith; count = refl; each = count_each z s } },
+    (record { sort = e; shape = same_shape z m f; array = record { sizes = omega arith; count = omega arith; each = h } }, tt),
   );
-})
+}
+
+pub real_sum_fits : (t : ValueType) (z : ℤ) (m : ℕ) (xs : List Value) → t ≡ RealType → unsigned_abs z ≤ 2147483647 → (is_count z ≡ true → m ≡ unsigned_abs z) → length xs ≡ m → All (IsOf t) xs
+    → Fits RealsMultiSum (record { kind = IntegerType; shape = []; items = Integer z ∷ [] } ∷ record { kind = t; shape = m ∷ []; items = xs } ∷ [])
+real_sum_fits t z m xs e s f c h = record {
+  rows = (
+    record { sort = refl; shape = refl; array = record { sizes = omega arith; count = refl; each = count_each z s } },
+    (record { sort = e; shape = same_shape z m f; array = record { sizes = omega arith; count = omega arith; each = h } }, tt),
+  );
+}
 
 pub values_ready : (p q : Inputs) (xs : List ℤ) → q ≡ p → AreValues p xs → AreReady q xs
 values_ready p q xs e v = rw e (record { size = v.size; each = λ i l _. v.each i l })

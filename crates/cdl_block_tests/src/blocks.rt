@@ -1,21 +1,16 @@
 // Each kind without a memory on inputs at their edges. The expected words were worked out with exact fractions, apart from the program.
-ghost use Rattle.std.specs.Prelude.{◌≡◌, ◌+◌, ◌<◌, ◌≤◌, ℕ, ℤ, List, All, IfOk, IfSome, IsTrue, length, map, true, false};
-ghost use Rattle.cdl_kinds.specs.Conditions.{Fits, FitsRow, Keeps};
+ghost use Rattle.std.specs.Prelude.{◌≡◌, ◌+◌, ◌<◌, ◌≤◌, ℕ, IsTrue, length, true};
+ghost use Rattle.cdl_kinds.specs.Conditions.{Keeps};
 ghost use Rattle.cdl_kinds.specs.History.{AreReady, AreValues, IsValue, word};
-ghost use Rattle.cdl_kinds.specs.Parameters.{row_of};
 ghost use Rattle.cdl_kinds.specs.Ports.{inputs, outputs};
-ghost use Rattle.cdl_kinds.specs.Values.{IsOf};
 ghost use Rattle.cdl_blocks.specs.MemorylessKinds.{is_memoryless};
 
-use super::*;
-use cdl_decimal::Real;
+use crate::values::{numbers, values};
+use cdl_blocks::{AnyBlock, is_memoryless};
 use cdl_kinds::words::read;
 use cdl_kinds::{
-    Array, Elementary, Kind, NoValue, Parameter, Params, Steps, Value, ValueType, check, find,
-    parameters, port, port_count,
+    Elementary, Kind, NoValue, Params, Steps, ValueType, check, find, port, port_count,
 };
-use cdl_source::{List, OutOfMemory};
-use std::alloc::{AllocError, Global};
 use std::marker::Brand;
 use std::sync::ledger::{Blank, Ledger};
 use std::test::Fail;
@@ -89,113 +84,6 @@ const CASES: &str = "Logical.And;;0 0=0;0 1=0;1 0=0;1 1=1\n\
     Routing.IntegerScalarReplicator;2;5=5 5;-5=-5 -5;2147483647=2147483647 2147483647;0=0 0\n\
     Routing.RealScalarReplicator;4;5=5 5 5 5;-5=-5 -5 -5 -5;10000000000000000=10000000000000000 10000000000000000 10000000000000000 10000000000000000;0=0 0 0 0\n\
     Routing.RealScalarReplicator;1;9=9";
-
-// The value of that type.
-fn value_of(kind: ValueType, n: i64) -> Option<Value>
-    ensures { IfSome result (λ x. IsOf kind x) }
-{
-    match kind {
-        ValueType::Boolean => Some(Value::Boolean(n == 1)),
-        ValueType::Integer => {
-            if -2_147_483_647 <= n && n <= 2_147_483_647 {
-                Some(Value::Integer(n as i32))
-            } else {
-                None
-            }
-        }
-        ValueType::Real => match Real::from_count(n) {
-            Some(x) => Some(Value::Real(x)),
-            None => None,
-        },
-        _ => None,
-    }
-}
-
-// A scalar for the parameter.
-#[tactic(auto, using(crate::proofs::Fitting::scalar_fits))]
-fn scalar(alloc: Global, row: &Parameter, n: i64) -> Result<Array, Fail>
-    ensures { IfOk result (λ a. (nin : ℤ) → row.now.per_nin ≡ false → FitsRow nin (row_of row.now) a) }
-{
-    let value = value_of(row.kind, n).ok_or("no value")?;
-    let mut items = List::new(alloc);
-    items.push(value)?;
-    Ok(Array {
-        kind: row.kind,
-        shape: List::new(alloc),
-        items,
-    })
-}
-
-// Scalars for the parameters of a kind that has no other ones.
-fn scalars(alloc: Global, kind: Kind, numbers: &[i64]) -> Result<List<Array>, Fail>
-    ensures { IfOk result (λ v. Fits kind v) }
-{
-    let rows = parameters(kind);
-    let mut values = List::new(alloc);
-    for i in 0..rows.len() {
-        if rows[i].per_nin {
-            return Err("an array".into());
-        }
-        let n = *numbers.get(i).ok_or("no number")?;
-        values.push(scalar(alloc, &rows[i], n)?)?;
-    }
-    Ok(values)
-}
-
-// One value for each input.
-fn factors(alloc: Global, kind: ValueType, numbers: &[i64]) -> Result<List<Value>, Fail>
-    ensures { IfOk result (λ v. (All (IsOf kind) v) × (length v ≡ length numbers.now)) }
-{
-    let mut values = List::new(alloc);
-    for n in numbers {
-        let value = value_of(kind, *n).ok_or("no value")?;
-        values.push(value)?;
-    }
-    Ok(values)
-}
-
-// The parameters of a sum: how many inputs, and a factor for each.
-fn sum_values(alloc: Global, kind: ValueType, numbers: &[i64]) -> Result<List<Array>, Fail>
-    ensures integers { IfOk result (λ v. kind ≡ ValueType.Integer → Fits Kind.IntegersMultiSum v) }
-    ensures reals { IfOk result (λ v. kind ≡ ValueType.Real → Fits Kind.RealsMultiSum v) }
-{
-    let nin = numbers.len();
-    if nin > 256 {
-        return Err("too many".into());
-    }
-    let mut counts = List::new(alloc);
-    counts.push(Value::Integer(nin as i32))?;
-    let mut shape = List::new(alloc);
-    shape.push(nin as u32)?;
-    let mut values = List::new(alloc);
-    values.push(Array {
-        kind: ValueType::Integer,
-        shape: List::new(alloc),
-        items: counts,
-    })?;
-    let items = factors(alloc, kind, numbers)?;
-    values.push(Array { kind, shape, items })?;
-    Ok(values)
-}
-
-// The values of the parameters.
-fn values(alloc: Global, kind: Kind, numbers: &[i64]) -> Result<List<Array>, Fail>
-    ensures { IfOk result (λ v. Fits kind v) }
-{
-    match numbers {
-        [_, factors @ ..] if kind == Kind::IntegersMultiSum => sum_values(
-            alloc,
-            ValueType::Integer,
-            factors,
-        ),
-        [_, factors @ ..] if kind == Kind::RealsMultiSum => sum_values(
-            alloc,
-            ValueType::Real,
-            factors,
-        ),
-        _ => scalars(alloc, kind, numbers),
-    }
-}
 
 fn is_value(kind: ValueType, w: i64) -> bool
     ensures { IsTrue result → IsValue kind w }
@@ -283,17 +171,7 @@ fn gives(kind: Kind, params: Params, ins: &[i64], want: &[i64]) -> bool
     }
 }
 
-// The numbers of a text; none of `none`.
-fn numbers(alloc: Global, text: &str) -> Result<Vec<i64>, Fail> {
-    let mut numbers = Vec::new(alloc);
-    if text != "none" {
-        for word in text.split_whitespace() {
-            numbers.push(word.parse()?)?;
-        }
-    }
-    Ok(numbers)
-}
-
+#[test]
 #[test]
 fn each_kind_gives_its_words(rt: HostRuntime) -> Result<(), Fail> {
     let alloc = rt.alloc();

@@ -1,6 +1,6 @@
 use Rattle.std.specs.Prelude.{ℤ}
-use Rattle.cdl_blocks.proofs.Fitting.{scalars_more}
-use Rattle.cdl_blocks.proofs.tests.scalars.Goals as goal
+use Rattle.cdl_block_tests.proofs.Fitting.{scalars_more}
+use Rattle.cdl_block_tests.proofs.values.scalars.Goals as goal
 
 pub loop-i-preserved : goal.loop-i-preserved
 loop-i-preserved c = λ (nin : ℤ).

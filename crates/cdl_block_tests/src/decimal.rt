@@ -1,5 +1,6 @@
-use super::*;
-use crate::DecimalError::{NotDecimal, OutOfRange, TooLong};
+// What decimals answer at their edges, and the texts that are read and written.
+use cdl_decimal::DecimalError::{NotDecimal, OutOfRange, TooLong};
+use cdl_decimal::{Real, line, mean, parse, text, weighted_sum};
 use std::test::Fail;
 
 // What each operation answers at two counts: its name, the counts, and the answer.
