@@ -9,4 +9,3 @@ pub mod Meaning
 pub mod Meanings
 pub mod States
 pub mod Laws
-pub mod Reference
