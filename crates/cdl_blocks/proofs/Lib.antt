@@ -4,4 +4,3 @@ pub mod ExtremeLaws
 pub mod SumLaws
 pub mod Factors
 pub mod Ready
-pub mod Fitting

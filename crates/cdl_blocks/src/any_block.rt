@@ -1,5 +1,5 @@
 // A block of any kind.
-ghost use Rattle.std.specs.Prelude.{◌≡◌, ℕ, ℤ, [], ◌∷◌, List, None, refl, true};
+ghost use Rattle.std.specs.Prelude.{◌≡◌, ◌↔◌, ℕ, ℤ, [], ◌∷◌, List, None, refl, true};
 ghost use Rattle.cdl_blocks.specs.declared.any_block.AnyBlock.TheVariants.{Memoryless};
 ghost use Rattle.cdl_kinds.specs.Laws.{by_all};
 ghost use Rattle.cdl_blocks.specs.AtOnce.{all_direct};
@@ -7,7 +7,9 @@ ghost use Rattle.cdl_blocks.specs.MemorylessKinds.{is_memoryless};
 ghost use Rattle.cdl_kinds.specs.Conditions.{Keeps};
 ghost use Rattle.cdl_kinds.specs.Meanings.{Lacks, meaning};
 ghost use Rattle.cdl_kinds.specs.Ports.{inputs, outputs};
+ghost use Rattle.cdl_kinds.specs.History.{History};
 ghost use Rattle.cdl_kinds.specs.StateWords.{state_words};
+ghost use Rattle.cdl_kinds.specs.States.{IsSound, Stands};
 
 use crate::memoryless::Memoryless;
 use crate::memoryless_block::MemorylessBlock;
@@ -29,7 +31,8 @@ macro_rules! each {
 }
 
 impl AnyBlock {
-    /// The block of the kind with these parameters: its ports, its state words and its meaning are those of the table.
+    /// The block of the kind with these parameters: its ports, its state words and its meaning are those of the table, and a
+    /// state stands for a history, and is sound for a time, as the table says.
     /// It takes no memory. The kind is one without a memory; the others are not built yet.
     pub fn new(kind: Kind, params: Params) -> AnyBlock
         requires keeps { Keeps kind params }
@@ -38,6 +41,8 @@ impl AnyBlock {
         ensures results { ⟦<AnyBlock as Elementary>⟧.results result ≡ outputs kind params }
         ensures width { ⟦<AnyBlock as Elementary>⟧.width result ≡ state_words kind params }
         ensures meaning { ⟦<AnyBlock as Elementary>⟧.meaning result ≡ meaning kind params }
+        ensures stands { (state : List ℤ) (h : History) → ⟦<AnyBlock as Elementary>⟧.stands result state h ↔ Stands kind params state h }
+        ensures sound { (state : List ℤ) (last : ℤ) → ⟦<AnyBlock as Elementary>⟧.is_sound result state last ↔ IsSound kind params state last }
         ensures lacks { (now : ℤ) (x : List ℤ) → ⟦<AnyBlock as Elementary>⟧.lacks result now x → Lacks kind params now x }
     {
         AnyBlock::Memoryless(MemorylessBlock::new(kind, params))

@@ -1,10 +1,12 @@
 // The block of each kind without a memory.
-ghost use Rattle.std.specs.Prelude.{◌≡◌, ◌<◌, ℤ, List, true};
+ghost use Rattle.std.specs.Prelude.{◌≡◌, ◌↔◌, ◌<◌, ℤ, List, true};
 ghost use Rattle.cdl_kinds.specs.declared.kind.Kind.TheVariants.{IntegersMultiSum, RealsMultiSum};
 ghost use Rattle.cdl_kinds.specs.Conditions.{Keeps};
 ghost use Rattle.cdl_kinds.specs.Meanings.{Lacks, meaning};
 ghost use Rattle.cdl_kinds.specs.Ports.{inputs, outputs, size_of};
+ghost use Rattle.cdl_kinds.specs.History.{History};
 ghost use Rattle.cdl_kinds.specs.StateWords.{state_words};
+ghost use Rattle.cdl_kinds.specs.States.{IsSound, Stands};
 ghost use Rattle.cdl_blocks.specs.MemorylessKinds.{is_memoryless};
 
 use crate::extremes::{Extreme, ExtremeOp};
@@ -145,6 +147,8 @@ impl MemorylessBlock {
         ensures results { ⟦<MemorylessBlock as Elementary>⟧.results result ≡ outputs kind params }
         ensures width { ⟦<MemorylessBlock as Elementary>⟧.width result ≡ state_words kind params }
         ensures meaning { ⟦<MemorylessBlock as Elementary>⟧.meaning result ≡ meaning kind params }
+        ensures stands { (state : List ℤ) (h : History) → ⟦<MemorylessBlock as Elementary>⟧.stands result state h ↔ Stands kind params state h }
+        ensures sound { (state : List ℤ) (last : ℤ) → ⟦<MemorylessBlock as Elementary>⟧.is_sound result state last ↔ IsSound kind params state last }
         ensures lacks { (now : ℤ) (x : List ℤ) → ⟦<MemorylessBlock as Elementary>⟧.lacks result now x → Lacks kind params now x }
     {
         match kind {

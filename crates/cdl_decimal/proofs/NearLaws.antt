@@ -1,14 +1,14 @@
 -- The rounded quotient is the nearest whole number, and there is one.
 use Rattle.std.proofs.Common.{ℕ, zero, suc, ◌+◌, ◌*◌, ◌-◌, ◌/◌, ◌%◌, ◌<◌, ◌≤◌, ◌≡◌, refl, sym, ap, ◌∙◌, true, false, arith, lit<, ◌⊎◌, inl, inr, subst}
-use Rattle.std.proofs.lemmas.Int.{ints, by_lt_z}
+use Rattle.std.proofs.lemmas.Int.{ints, by_lt_z, unsigned_abs-mul}
 use Rattle.std.proofs.lemmas.Bool.Decides.{nat_tests}
 use Rattle.std.specs.Prelude.{ℤ, pos, negsuc, ◌+ℤ◌, ◌-ℤ◌, ◌*ℤ◌, ◌<ℤ◌, unsigned_abs, neg_ℤ}
 use Rattle.std.specs.Int.{int_div_euclid, int_rem_euclid}
 use Rattle.std.proofs.Math.IntN.{+ℤ_one, suc_ℤ-*ℤ, *ℤ_comm, *ℤ-negsuc}
-use Rattle.std.proofs.Math.Nat.{div-add-mod', mod-lt, suc-mul}
+use Rattle.std.proofs.Math.Nat.{div-add-mod', mod-lt, mul-le-mul_right, suc-mul}
 use borrow.Author.Differences.{up, down}
 use Rattle.std.specs.Prelude.{Option, Some, IsSomeAnd, nat_le, ◌≤ℤ◌}
-use Rattle.std.proofs.lemmas.Bool.{le-leb}
+use Rattle.std.proofs.lemmas.Bool.{cases_lt, le-leb}
 use Rattle.cdl_decimal.specs.Counts.{floor_whole, nearest_whole, IsNearestWhole}
 use Rattle.cdl_decimal.specs.Near.{IsFloor, InRange, IsNear, near, nearest, rounds_down, near_signed, modulo_of, in_range, RoundsTo, IsModulo}
 
@@ -131,6 +131,24 @@ modulo_minus a (negsuc d) m e r h f g k =
     let u : r ≡ neg_ℤ a -ℤ q *ℤ pos (suc d) = rw (j, i) at k ∙ sym (left_whole (neg_ℤ a) (suc d)) ∙ sym (euclid (neg_ℤ a) (suc d) (omega arith)) in
     let v : negsuc d *ℤ q ≡ neg_ℤ (q *ℤ pos (suc d)) = *ℤ_comm (negsuc d) q ∙ *ℤ-negsuc q d in
     rw (v, u) (omega (arith, ints))
+
+-- the nearest to a fraction of magnitude at most m
+by_bound : (n q : ℤ) (d m : ℕ) → 0 < d → unsigned_abs n ≤ m * d → IsNear n d q → (m < unsigned_abs q) ⊎ (unsigned_abs q ≤ m) → unsigned_abs q ≤ m
+by_bound n q d m h s i (inl l) =
+    let p : unsigned_abs (q *ℤ pos d) ≡ unsigned_abs q * d = unsigned_abs-mul q (pos d) in
+    let r : suc m * d ≤ unsigned_abs q * d = mul-le-mul_right d l in
+    absurd (omega (arith, ints, i.within, suc-mul m d))
+by_bound n q d m h s i (inr l) = l
+
+pub near_small : (n : ℤ) (d m : ℕ) → 0 < d → unsigned_abs n ≤ m * d → unsigned_abs (near n d) ≤ m
+near_small n d m h s = by_bound n (near n d) d m h s (near_is n d h) (cases_lt m (unsigned_abs (near n d)))
+
+-- so a mean is in range
+pub mean_in_range : (n : ℤ) (d : ℕ) → 0 < d → unsigned_abs n ≤ 10000000000000000 * d → in_range (near n d) ≡ Some (near n d)
+mean_in_range n d h s = let t : nat_le (unsigned_abs (near n d)) 10000000000000000 ≡ true = le-leb _ _ (near_small n d 10000000000000000 h s) in rw t refl
+
+pub mean_found : (n : ℤ) (d : ℕ) (m e : ℤ) (answer : Option ℤ) → answer ≡ in_range (near m (unsigned_abs e)) → m ≡ n → e ≡ pos d → 0 < d → unsigned_abs n ≤ 10000000000000000 * d → answer ≡ Some (near n d)
+mean_found n d m e answer a f g h s = rw (f, g) at a ∙ mean_in_range n d h s
 
 -- What the rounding of one fraction is, from the count that the code computes.
 pub rounds_to : (n : ℤ) (d : ℕ) (answer : Option ℤ) → 0 < d → answer ≡ in_range (near n d) → RoundsTo n d answer

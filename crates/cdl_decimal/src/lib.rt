@@ -11,7 +11,4 @@ mod scale;
 pub use canonical::text;
 pub use numeral::DecimalError;
 pub use parser::parse;
-pub use real::{Real, line, mean, weighted_sum};
-
-#[cfg(test)]
-mod tests;
+pub use real::{Real, line, mean, mean_of_sum, weighted_sum};

@@ -1,6 +1,6 @@
 // The type of counts of millionths, and its operations.
-ghost use Rattle.std.specs.Prelude.{◌≡◌, ◌*◌, ◌^◌, ◌<◌, ◌≤◌, length, ℤ, pos, ◌+ℤ◌, ◌-ℤ◌, ◌*ℤ◌, ◌≤ℤ◌, ◌<ℤ◌, neg_ℤ, unsigned_abs, None, IsSomeAnd};
-ghost use Rattle.cdl_decimal.specs.Near.{near, InRange, in_range, in_integer_range, IsFloor, IsModulo, RoundsTo};
+ghost use Rattle.std.specs.Prelude.{◌≡◌, ◌*◌, ◌^◌, ◌<◌, ◌≤◌, length, ℤ, pos, ◌+ℤ◌, ◌-ℤ◌, ◌*ℤ◌, ◌≤ℤ◌, ◌<ℤ◌, neg_ℤ, unsigned_abs, None, IsSome, IsSomeAnd};
+ghost use Rattle.cdl_decimal.specs.Near.{near, InRange, in_range, in_integer_range, IsFloor, IsModulo, IsNear, RoundsTo};
 ghost use Rattle.cdl_decimal.specs.Counts.{real_add, real_sub, real_mul, real_div, real_modulo, real_line, real_weighted_sum, real_mean, real_to_integer, real_floor_integer, line_upper, dot, total, nearest_whole, floor_whole, IsNearestWhole};
 
 use crate::rounding::{nearest, signed_left, signed_nearest};
@@ -51,7 +51,7 @@ fn sum_of_products(k: &[Real], u: &[Real]) -> i128
 fn sum_of_counts(u: &[Real]) -> i128
     requires few { length u.now ≤ 1024 }
     ensures value { result ≡ total u.now }
-    ensures small { unsigned_abs result ≤ 10240000000000000000 }
+    ensures small { unsigned_abs result ≤ 10000000000000000 * length u.now }
 {
     let mut sum: i128 = 0;
     for i in 0..u.len() {
@@ -251,11 +251,27 @@ pub fn weighted_sum(k: &[Real], u: &[Real]) -> Option<Real>
     rounded(sum_of_products(k, u), 1_000_000)
 }
 
+/// The mean of so many Reals, whose counts have this sum, rounded to the nearest millionth, and to the even one where two
+/// are nearest.
+pub fn mean_of_sum(sum: i128, count: usize) -> Real
+    requires some { 0 < count }
+    requires few { count ≤ 1024 }
+    requires small { unsigned_abs sum ≤ 10000000000000000 * count }
+    ensures value { result ≡ near sum count }
+    ensures nearest { IsNear sum count result }
+{
+    match rounded(sum, count as i128) {
+        Some(x) => x,
+        None => unreachable!(),
+    }
+}
+
 /// The mean, rounded to the nearest millionth, and to the even one where two are nearest. It is never out of range.
 pub fn mean(u: &[Real]) -> Option<Real>
     requires some { 0 < length u.now }
     requires few { length u.now ≤ 1024 }
     ensures count { result ≡ real_mean u.now }
+    ensures always { IsSome result }
     ensures rounded { RoundsTo (total u.now) (length u.now) result }
 {
     rounded(sum_of_counts(u), u.len() as i128)

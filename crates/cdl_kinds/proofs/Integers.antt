@@ -7,7 +7,6 @@ use Rattle.cdl_kinds.specs.declared.value.Value.TheVariants.{Boolean, Integer, R
 use Rattle.cdl_kinds.specs.declared.value.ValueType.{ValueType}
 use Rattle.cdl_kinds.specs.declared.value.ValueType.TheVariants.{Boolean as BooleanType, Integer as IntegerType, Real as RealType, Str as StrType, Enumeration as EnumerationType}
 use Rattle.cdl_kinds.specs.declared.kind.Kind.{Kind}
-use Rattle.cdl_kinds.specs.declared.kind.Kind.TheVariants.{LogicalMultiAnd}
 use Rattle.cdl_kinds.specs.Conditions.{Fits, FitRows}
 use Rattle.cdl_kinds.specs.Parameters.{ParameterRow, parameters}
 use Rattle.cdl_kinds.specs.Values.{HasIntegers, HaveIntegers, IsOf, first, integer_of, integer_at}
@@ -54,11 +53,3 @@ rows_fit nin (r ∷ rs) (a ∷ v) h = all_cons a v (items_fit a.kind a.items h.0
 
 pub fits_small : (k : Kind) (v : List Array) → Fits k v → HaveIntegers v
 fits_small k v h = rows_fit (integer_at v 0) (parameters k) v h.rows
-
-nin_each : (nin : ℤ) → unsigned_abs nin ≤ 2147483647 → All (IsOf IntegerType) (Integer nin ∷ [])
-nin_each nin h zero d l = h
-nin_each nin h (suc k) d l = absurd (omega arith)
-
--- one Integer fits a kind whose only parameter is nin
-pub nin_fits : (nin : ℤ) → unsigned_abs nin ≤ 2147483647 → Fits LogicalMultiAnd (record { kind = IntegerType; shape = []; items = Integer nin ∷ [] } ∷ [])
-nin_fits nin h = record { rows = (record { sort = refl; shape = refl; array = record { sizes = omega arith; count = refl; each = nin_each nin h } }, tt) }

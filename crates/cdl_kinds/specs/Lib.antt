@@ -7,5 +7,5 @@ pub mod Conditions
 pub mod StateWords
 pub mod Meaning
 pub mod Meanings
+pub mod States
 pub mod Laws
-pub mod Reference

@@ -21,6 +21,3 @@ pub use port_list::{port, port_count};
 pub use ports::Port;
 pub use steps::Steps;
 pub use value::{Array, Value, ValueType};
-
-#[cfg(test)]
-mod tests;

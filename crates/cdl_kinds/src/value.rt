@@ -35,15 +35,6 @@ pub struct Array {
     pub items: List<Value>,
 }
 
-// An equal text.
-fn copy_text(alloc: Global, text: &Text) -> Result<Text, OutOfMemory>
-    ensures { IfOk result (λ t. t ≡ text.now) }
-{
-    let mut copy = Text::new(alloc);
-    copy.push(text.bytes())?;
-    Ok(copy)
-}
-
 // An equal shape.
 fn copy_shape(alloc: Global, shape: &[u32]) -> Result<List<u32>, OutOfMemory>
     ensures { IfOk result (λ s. s ≡ shape.now) }
@@ -75,7 +66,7 @@ impl Value {
             Value::Boolean(b) => Ok(Value::Boolean(*b)),
             Value::Integer(z) => Ok(Value::Integer(*z)),
             Value::Real(x) => Ok(Value::Real(*x)),
-            Value::Str(text) => Ok(Value::Str(copy_text(alloc, text)?)),
+            Value::Str(text) => Ok(Value::Str(text.copy(alloc)?)),
             Value::Enumeration { class, ordinal } => Ok(Value::Enumeration {
                 class: *class,
                 ordinal: *ordinal,

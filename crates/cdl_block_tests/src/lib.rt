@@ -1,0 +1,11 @@
+//! The tests of decimals, kinds and blocks, by public calls alone.
+#![tactic(auto)]
+
+#[cfg(test)]
+mod blocks;
+#[cfg(test)]
+mod decimal;
+#[cfg(test)]
+mod kinds;
+#[cfg(test)]
+mod values;

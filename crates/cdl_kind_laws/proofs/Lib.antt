@@ -1,0 +1,11 @@
+pub mod Direct
+pub mod Widths
+pub mod Later
+pub mod ParameterRanges
+pub mod ValueWords
+pub mod Past
+pub mod Standing
+pub mod RunningLaws
+pub mod HoldLaws
+pub mod TypedWords
+pub mod TypedOutputs
