@@ -141,7 +141,7 @@ one_arrival zero h = absurd (cc)
 one_arrival (suc zero) h = refl
 one_arrival (suc (suc k)) h = absurd (cc)
 
-arrives_once : {I E : Type 0} (n : Network I E) (x : E) → first_element n ≡ None → In x n.elements → is_wanted n x ≡ true → arrivals n x ≡ 1
+pub arrives_once : {I E : Type 0} (n : Network I E) (x : E) → first_element n ≡ None → In x n.elements → is_wanted n x ≡ true → arrivals n x ≡ 1
 arrives_once n x f i h = one_arrival (arrivals n x) (sym (ap (λ b. fault_by b (arrivals n x)) h) ∙ none_of (element_fault n) x n.elements f i)
 
 -- each element has an origin

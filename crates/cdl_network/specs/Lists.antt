@@ -1,5 +1,5 @@
 -- Words on lists: members, all that have a property, places, and the first of a kind.
-use Rattle.std.specs.Prelude.{ℕ, zero, suc, ◌≡◌, ◌⊎◌, ◌==◌, ◌&&◌, Bool, true, false, cond, List, [], ◌∷◌, Option, Some, None}
+use Rattle.std.specs.Prelude.{ℕ, zero, suc, ◌≡◌, ◌⊎◌, Bool, true, false, cond, List, [], ◌∷◌, Option, Some, None}
 
 -- the item stands in the list
 abbrev pub In : {A : Type 0} → A → List A → Type 0
@@ -59,10 +59,3 @@ first_of f (x ∷ xs) = found x (f x) (first_of f xs)
 abbrev pub first_that : {A : Type 0} → (A → Bool) → List A → Option A
 first_that f [] = None
 first_that f (x ∷ xs) = cond (f x) (Some x) (first_that f xs)
-
--- the same bytes
-abbrev pub same_bytes : List ℕ → List ℕ → Bool
-same_bytes [] [] = true
-same_bytes [] (y ∷ ys) = false
-same_bytes (x ∷ xs) [] = false
-same_bytes (x ∷ xs) (y ∷ ys) = (x == y) && same_bytes xs ys

@@ -1,8 +1,9 @@
 -- The rules on wires and elements, each by its number, and the first that is broken.
 use Rattle.std.specs.Prelude.{ℕ, zero, suc, ◌+◌, ◌==◌, ◌&&◌, ◌||◌, Bool, true, false, cond, not, List, [], ◌∷◌, length, map, sum, filter, Option, Some, None}
+use Rattle.std.specs.Str.{bytes_eq}
 use Rattle.cdl_kinds.specs.declared.value.ValueType.{ValueType}
 use Rattle.cdl_kinds.specs.declared.value.ValueType.TheVariants.{Boolean, Integer, Real, Str, Enumeration}
-use Rattle.cdl_network.specs.Lists.{count, first_of, has_some, same_bytes}
+use Rattle.cdl_network.specs.Lists.{count, first_of, has_some}
 use Rattle.cdl_network.specs.Network.{Network, Wire}
 
 abbrev pub is_some_same : {A : Type 0} → (A → A → Bool) → A → Option A → Bool
@@ -58,7 +59,7 @@ has_unit n x = is_real (n.value_type x) && not (is_empty (n.unit x))
 
 -- both are Reals with a unit, and the bytes differ
 abbrev pub units_differ : {I E : Type 0} → Network I E → E → E → Bool
-units_differ n x y = (has_unit n x && has_unit n y) && not (same_bytes (n.unit x) (n.unit y))
+units_differ n x y = (has_unit n x && has_unit n y) && not (bytes_eq (n.unit x) (n.unit y))
 
 -- The first rule that a wire breaks. C43: it joins no source to a sink; C44: the types differ; C48: the units differ.
 abbrev pub wire_fault : {I E : Type 0} → Network I E → Wire I E → Option ℕ
