@@ -1,14 +1,9 @@
 -- The texts of paths: steps, and whole arrays of steps.
-use Rattle.std.specs.Prelude.{ℕ, ◌+◌, ◌*◌, ◌<◌, ◌≤◌, ◌≡◌, ◌==◌, ◌&&◌, not, nat_le, Bool, false, cond, List, [], ◌∷◌, ◌++◌, map, length, codes, IsTrue}
-use Rattle.std.specs.List.{flat_map, list_all}
+use Rattle.std.specs.Prelude.{ℕ, ◌+◌, ◌*◌, ◌<◌, ◌≤◌, ◌≡◌, ◌==◌, Bool, false, cond, List, [], ◌∷◌, ◌++◌, map, codes, IsTrue}
+use Rattle.std.specs.List.{flat_map}
 use Rattle.cdl_network.specs.Lists.{In, Apart, numbers}
-use Rattle.cdl_lex.specs.Keywords.{is_keyword}
-use Rattle.cdl_lex.specs.Spellings.{is_initial, is_word}
-
--- a letter or `_`, then letters, digits and `_`, and no keyword, of at most 64 bytes
-abbrev pub is_identifier : List ℕ → Bool
-is_identifier [] = false
-is_identifier (c ∷ cs) = is_initial c && list_all is_word cs && not (is_keyword (c ∷ cs)) && nat_le (length (c ∷ cs)) 64
+use Rattle.cdl_source.specs.Identifiers.{is_identifier}
+use Rattle.cdl_source.specs.declared.limits.TheConstants.{LARGEST_SIZE, MOST_ITEMS}
 
 -- one step of a path: its identifier, and its indices, none or one or two of them
 pub record Step : Type 0 where
@@ -54,8 +49,8 @@ array_steps name (Grid m n) = flat_map (λ k. map (λ l. record { name = name; i
 -- each size is from 1 to 4,096, and an array has at most 65,536 items
 abbrev pub AreSizes : Sizes → Type 0
 AreSizes Single = Unit {0}
-AreSizes (Row n) = (1 ≤ n) × (n ≤ 4096)
-AreSizes (Grid m n) = (1 ≤ m) × (m ≤ 4096) × (1 ≤ n) × (n ≤ 4096) × (m * n ≤ 65536)
+AreSizes (Row n) = (1 ≤ n) × (n ≤ LARGEST_SIZE)
+AreSizes (Grid m n) = (1 ≤ m) × (m ≤ LARGEST_SIZE) × (1 ≤ n) × (n ≤ LARGEST_SIZE) × (m * n ≤ MOST_ITEMS)
 
 pub record ArrayOf : Type 0 where
   pub name : List ℕ

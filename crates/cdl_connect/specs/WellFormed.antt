@@ -1,6 +1,7 @@
 -- When a net is well formed: a field for each sentence.
 use Rattle.std.specs.Prelude.{ℕ, zero, suc, ◌+◌, ◌<◌, ◌≤◌, ◌≡◌, ◌==◌, ◌&&◌, ◌||◌, nat_le, nat_lt, Bool, true, false, cond, List, [], ◌∷◌, ◌++◌, map, filter, length, codes, unwrap_or, Option, Some, None, slice_get, IsUtf8}
 use Rattle.std.specs.List.{list_any}
+use Rattle.cdl_source.specs.declared.limits.TheConstants.{LONGEST_UNIT, MOST_ELEMENTS, MOST_INSTANCES, MOST_STEPS, MOST_WIRES}
 use Rattle.cdl_kinds.specs.declared.value.ValueType.{ValueType}
 use Rattle.cdl_kinds.specs.declared.value.ValueType.TheVariants.{Boolean, Integer, Real}
 use Rattle.cdl_kinds.specs.declared.kind.Kind.{Kind}
@@ -79,15 +80,15 @@ pub record ArePlain (n : Net) : Type 0 where
 -- A unit is UTF-8 of at most 64 bytes, and empty where the element isn't Real.
 pub record AreUnits (n : Net) : Type 0 where
   pub utf8 : (x : ℕ) → x < length n.elements → IsUtf8 (element n x).unit
-  pub short : (x : ℕ) → x < length n.elements → length (element n x).unit ≤ 64
+  pub short : (x : ℕ) → x < length n.elements → length (element n x).unit ≤ LONGEST_UNIT
   pub real : (x : ℕ) → x < length n.elements → is_real (element n x).value_type ≡ false → (element n x).unit ≡ []
 
 -- The net is within the limits: at most 20,000 instances, 200,000 elements, 400,000 wires, and 16 steps below the root.
 pub record IsWithinLimits (n : Net) : Type 0 where
-  pub instances : length n.instances ≤ 20000
-  pub elements : length n.elements ≤ 200000
-  pub wires : length n.wires ≤ 400000
-  pub steps : (i : ℕ) → i < length n.instances → length (lineage n i i) ≤ 17
+  pub instances : length n.instances ≤ MOST_INSTANCES
+  pub elements : length n.elements ≤ MOST_ELEMENTS
+  pub wires : length n.wires ≤ MOST_WIRES
+  pub steps : (i : ℕ) → i < length n.instances → length (lineage n i i) ≤ MOST_STEPS + 1
 
 -- the element is the port: its name with its index, its type and its direction
 pub record IsPort (p : PortRow) (e : NetElement) : Type 0 where
@@ -154,6 +155,6 @@ pub record IsIndexed (n : Net) : Type 0 where
   pub numbers : AreNumbers n
   pub windows : AreWindows n
   pub scopes : (k : ℕ) (w : RawWire) → slice_get n.wires k ≡ Some w → is_elementary (slice_get n.instances w.scope) ≡ false
-  pub instances : length n.instances ≤ 20000
-  pub elements : length n.elements ≤ 200000
-  pub wires : length n.wires ≤ 400000
+  pub instances : length n.instances ≤ MOST_INSTANCES
+  pub elements : length n.elements ≤ MOST_ELEMENTS
+  pub wires : length n.wires ≤ MOST_WIRES

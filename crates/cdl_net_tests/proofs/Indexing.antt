@@ -2,6 +2,7 @@
 use Rattle.std.proofs.Common.{ℕ, ◌+◌, ◌<◌, ◌≤◌, ◌≡◌, inl, inr, refl, sym, ap, ◌∙◌, subst, arith, List, length, get_or, Option, Some, None, slice_get}
 use Rattle.std.proofs.lemmas.Bool.{cases_eq}
 use Rattle.std.proofs.lemmas.Option.{slice_get-get_or, slice_get_within}
+use Rattle.cdl_source.specs.declared.limits.TheConstants.{MOST_ELEMENTS, MOST_INSTANCES, MOST_WIRES}
 use Rattle.cdl_connect.specs.declared.net.Net.{Net}
 use Rattle.cdl_connect.specs.declared.net.NetInstance.{NetInstance}
 use Rattle.cdl_connect.specs.declared.net.RawWire.{RawWire}
@@ -13,7 +14,7 @@ parent_some : (o : Option NetInstance) (p : ℕ) → parent_of o ≡ Some p → 
 parent_some None p e = absurd (cc)
 parent_some (Some t) p e = (t, refl, e)
 
-pub indexed_of : (n : Net) → (length n.instances ≤ 20000) × (length n.elements ≤ 200000) × (length n.wires ≤ 400000)
+pub indexed_of : (n : Net) → (length n.instances ≤ MOST_INSTANCES) × (length n.elements ≤ MOST_INSTANCES0) × (length n.wires ≤ MOST_WIRES)
     → ((i : ℕ) (t : NetInstance) → i < length n.instances → slice_get n.instances i ≡ Some t → IsFineInstance n i t)
     → ((x : ℕ) → x < length n.elements → IsFineElement n x)
     → ((k : ℕ) (w : RawWire) → k < length n.wires → slice_get n.wires k ≡ Some w → IsFineWire n w)

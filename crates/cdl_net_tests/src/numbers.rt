@@ -7,6 +7,7 @@ ghost use Rattle.cdl_connect.specs.WellFormed.{IsIndexed};
 ghost use Rattle.cdl_net_tests.specs.Fine.{AreBefore, IsFineElement, IsFineInstance, IsFineWire, Owns};
 
 use cdl_connect::{Body, Net, NetInstance, RawWire};
+use cdl_source::{MOST_ELEMENTS, MOST_INSTANCES, MOST_WIRES};
 
 fn is_in_window(t: &NetInstance, x: usize) -> bool
     ensures { result ≡ (nat_le t.now.first x && nat_lt x (t.now.first + t.now.count)) }
@@ -111,11 +112,11 @@ fn are_fine_wires(net: &Net) -> bool
 }
 
 fn are_few(net: &Net) -> bool
-    ensures { result ≡ true → (length net.now.instances ≤ 20000) × (length net.now.elements ≤ 200000) × (length net.now.wires ≤ 400000) }
+    ensures { result ≡ true → (length net.now.instances ≤ MOST_INSTANCES) × (length net.now.elements ≤ MOST_ELEMENTS) × (length net.now.wires ≤ MOST_WIRES) }
 {
-    net.instances.items().len() <= 20_000
-        && net.elements.items().len() <= 200_000
-        && net.wires.items().len() <= 400_000
+    net.instances.items().len() <= MOST_INSTANCES as usize
+        && net.elements.items().len() <= MOST_ELEMENTS as usize
+        && net.wires.items().len() <= MOST_WIRES as usize
 }
 
 /// The net, where its numbers are good.
