@@ -1,0 +1,5 @@
+pub mod Nets
+pub mod Paths
+pub mod WellFormed
+pub mod Faults
+pub mod inner

@@ -1,0 +1,11 @@
+//! Tests of nets by public calls, with nets that are written as short texts.
+#![tactic(auto)]
+
+mod builder;
+mod numbers;
+
+pub use builder::net_of;
+pub use numbers::indexed;
+
+#[cfg(test)]
+mod tests;

@@ -1,0 +1,13 @@
+pub mod Inside
+pub mod Solving
+pub mod Rules
+pub mod Renaming
+pub mod Looping
+pub mod Numbers
+pub mod Walks
+pub mod Checking
+pub mod Accepted
+pub mod Stated
+pub mod Places
+pub mod Unique
+pub mod WellFormed

@@ -1,0 +1,9 @@
+pub mod Lists
+pub mod Network
+pub mod Rules
+pub mod Dependence
+pub mod FirstBroken
+pub mod Ticks
+pub mod Closed
+pub mod Planned
+pub mod Renamed

@@ -1,0 +1,5 @@
+use Rattle.std.proofs.Common.{◌≡◌, ℕ, get_or, length, false}
+use Rattle.cdl_search.proofs.order.flags.Given as goal
+
+abbrev pub invariant-loop : goal.invariant-loop
+invariant-loop l = (length l.v.items ≡ l.counter) × ((x : ℕ) → get_or l.v.items x false ≡ false)

@@ -1,0 +1,4 @@
+pub mod Walks
+pub mod Search
+pub mod Graph
+pub mod Order
