@@ -6,3 +6,4 @@ pub mod BrokenLaw
 pub mod ValueLaw
 pub mod TraceFacts
 pub mod MixedLaw
+pub mod PlainTexts
