@@ -10,12 +10,12 @@ use Rattle.cdl_table.specs.declared.column.Column.{Column}
 use Rattle.cdl_table.specs.TableRow.{TableRow}
 use Rattle.cdl_command.specs.Job.{Task, RunOf}
 use Rattle.cdl_command.specs.Answer.{GrewBySome, OutAfter, IsAt, IsAtSpot, StandsIn}
-use Rattle.cdl_command.specs.Reads.{AreModels}
+use Rattle.cdl_command.specs.inner.Reads.{AreModels}
 use Rattle.cdl_command.specs.Roots.{IsFlatRoot}
-use Rattle.cdl_command.specs.Stops.{Stops, StopsInTexts, StopsAtClasses, RefusesText, RefusesClasses, RefusesRoot, RefusesBlock, RefusesTable, HasRoot, HasFlat, refusal_at, refusal_in, refusal_at_some, ended_of, plain_end}
+use Rattle.cdl_command.specs.inner.Stops.{Stops, StopsInTexts, StopsAtClasses, RefusesText, RefusesClasses, RefusesRoot, RefusesBlock, RefusesTable, HasRoot, HasFlat, refusal_at, refusal_in, refusal_at_some, ended_of, plain_end}
 use Rattle.cdl_command.specs.Tables.{HoldsRows, BreaksTable}
 use Rattle.cdl_command.specs.Texts.{Contents, Holds, FirstHold, HaveTrees}
-use Rattle.cdl_command.specs.Ticks.{RunsRows, SomeOfTrace}
+use Rattle.cdl_command.specs.inner.Ticks.{RunsRows, SomeOfTrace}
 use Rattle.cdl_command.specs.Top.{Works, BeginsInOrder}
 use Rattle.cdl_command.specs.Verdict.{Run, IsRunnable, Verdict, text_rule, class_rule, no_block, not_built, table_rule, ran, model, all_models, the_table}
 use Rattle.cdl_command.specs.declared.outcome.Outcome.{Outcome}

@@ -15,8 +15,8 @@ use Rattle.cdl_tree.specs.declared.class.FileTree.{FileTree}
 use Rattle.cdl_tree.specs.Terminals.{terminals}
 use Rattle.cdl_parse.specs.Verdict.{Closes, IsTree, IsRefused, word_of}
 use Rattle.cdl_parse.specs.declared.ParseFault.TheVariants.{Rule}
-use Rattle.cdl_command.specs.Reads.{stop_of, IsShortHead}
-use Rattle.cdl_command.specs.Stops.{Stops, RefusesText, refusal_at}
+use Rattle.cdl_command.specs.inner.Reads.{stop_of, IsShortHead}
+use Rattle.cdl_command.specs.inner.Stops.{Stops, RefusesText, refusal_at}
 use Rattle.cdl_command.specs.Texts.{Contents, Holds, IsTreeOf, HasTree, BreaksText}
 use Rattle.cdl_command.specs.declared.stop.Refusal.{Refusal}
 

@@ -12,7 +12,7 @@ use Rattle.cdl_table.specs.declared.column.Column.{Column}
 use Rattle.cdl_table.specs.TableRow.{TableRow, row_at, row_with}
 use Rattle.cdl_table.specs.Trace.{header_text, record_text}
 use Rattle.cdl_command.specs.Runs.{Gives, AreRecords, Faults, whole, cut, path_of}
-use Rattle.cdl_command.specs.Ticks.{WroteTick, SomeOfTick, CutsTick, WroteRows, FrontOfRows, CutsRows, SomeOfTrace, WroteTrace, FaultsIn, CutsTrace, EndsWith, IsFaulted, stop_of}
+use Rattle.cdl_command.specs.inner.Ticks.{WroteTick, SomeOfTick, CutsTick, WroteRows, FrontOfRows, CutsRows, SomeOfTrace, WroteTrace, FaultsIn, CutsTrace, EndsWith, IsFaulted, stop_of}
 use Rattle.cdl_table.specs.declared.trace.TraceError.{TraceError}
 use Rattle.cdl_table.specs.declared.trace.TraceError.TheVariants as trace
 use Rattle.cdl_command.specs.declared.trace.TickStop.{TickStop}

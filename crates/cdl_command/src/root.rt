@@ -2,8 +2,8 @@
 ghost use Rattle.std.specs.Prelude.{◌≡◌, ◌≤◌, ◌<◌, IfOk, IfErr, length};
 ghost use Rattle.cdl_classes.specs.Classes.{declared};
 ghost use Rattle.cdl_command.specs.Roots as spec;
-ghost use Rattle.cdl_command.specs.Reads.{AreShort};
-ghost use Rattle.cdl_command.specs.Stops.{Stops, StopsAtClasses, HasRoot, HasFlat, RefusesBlock, refusal_in};
+ghost use Rattle.cdl_command.specs.inner.Reads.{AreShort};
+ghost use Rattle.cdl_command.specs.inner.Stops.{Stops, StopsAtClasses, HasRoot, HasFlat, RefusesBlock, refusal_in};
 ghost use Rattle.cdl_command.specs.Texts.{HaveTrees};
 
 use crate::outcome::Spot;

@@ -1,6 +1,6 @@
 // Why a job stops, and how it ends.
 ghost use Rattle.std.specs.Prelude.{◌≡◌, ◌≤◌, ◌⊎◌, length, take};
-ghost use Rattle.cdl_command.specs.Stops.{refusal_of, refusal_at, plain_end, ended_of};
+ghost use Rattle.cdl_command.specs.inner.Stops.{refusal_of, refusal_at, plain_end, ended_of};
 ghost use Rattle.cdl_command.specs.Verdict.{root_path};
 
 use crate::outcome::{Outcome, Spot};

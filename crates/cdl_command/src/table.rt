@@ -4,7 +4,7 @@ ghost use Rattle.std.specs.Io.KnownBytes.{IsAtEnd};
 ghost use Rattle.cdl_source.specs.Causes.{Rose};
 ghost use Rattle.cdl_source.specs.Outside.{IsNextDue, due_after};
 ghost use Rattle.cdl_table.specs.Values.{HaveValues};
-ghost use Rattle.cdl_command.specs.Stops.{Stops, RefusesTable};
+ghost use Rattle.cdl_command.specs.inner.Stops.{Stops, RefusesTable};
 ghost use Rattle.cdl_command.specs.Tables.{HoldsRows};
 
 use crate::outcome::Spot;

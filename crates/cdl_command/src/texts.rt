@@ -2,8 +2,8 @@
 ghost use Rattle.std.specs.Prelude.{◌≡◌, ◌≤◌, ◌<◌, ◌+◌, ◌-◌, ◌^◌, IfOk, IfErr, OnOk, length, map, string_bytes};
 ghost use Rattle.cdl_source.specs.Causes.{Rose};
 ghost use Rattle.cdl_source.specs.Outside.{IsNextDue, due_after, DueBeginsWith};
-ghost use Rattle.cdl_command.specs.Reads as spec;
-ghost use Rattle.cdl_command.specs.Stops.{Stops, StopsInTexts, RefusesText};
+ghost use Rattle.cdl_command.specs.inner.Reads as spec;
+ghost use Rattle.cdl_command.specs.inner.Stops.{Stops, StopsInTexts, RefusesText};
 ghost use Rattle.cdl_command.specs.Texts.{Holds, HasTree};
 
 use crate::stop::{LONGEST_MODEL, Refusal, Stop, refusal_at};

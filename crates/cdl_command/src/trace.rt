@@ -3,8 +3,8 @@ ghost use Rattle.std.specs.Prelude.{◌≡◌, ◌<◌, ◌≤◌, IfOk, IfErr, 
 ghost use Rattle.cdl_source.specs.Causes.{Rose};
 ghost use Rattle.cdl_table.specs.TableRow.{row_at};
 ghost use Rattle.cdl_table.specs.Values.{HaveValues};
-ghost use Rattle.cdl_command.specs.Ticks as spec;
-ghost use Rattle.cdl_command.specs.Ticks.{WroteTick, CutsTick, WroteRows, CutsRows, RunsRows};
+ghost use Rattle.cdl_command.specs.inner.Ticks as spec;
+ghost use Rattle.cdl_command.specs.inner.Ticks.{WroteTick, CutsTick, WroteRows, CutsRows, RunsRows};
 ghost use Rattle.cdl_command.specs.Runs.{path_of};
 
 use crate::outcome::Outcome;
@@ -57,7 +57,7 @@ fn faulted(alloc: Global, time: i64, name: &Text) -> TickStop
 
 impl From<TraceError> for TickStop {
     ghost use Rattle.std.specs.Prelude.{◌≡◌};
-    ghost use Rattle.cdl_command.specs.Ticks.{stop_of};
+    ghost use Rattle.cdl_command.specs.inner.Ticks.{stop_of};
 
     ghost from_gives = { λ t e. e ≡ stop_of t };
 

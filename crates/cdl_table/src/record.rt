@@ -1,7 +1,7 @@
 // One record of a table.
 ghost use Rattle.std.specs.Prelude.{◌≡◌, ◌<◌, ◌-◌, ◌^◌, ◌++◌, List, [], ℤ, pos, length, drop, IfOk, OnOk, IfErr, Ok};
 ghost use Rattle.csv.specs.Records.{fields_of};
-ghost use Rattle.cdl_table.specs.Scan.{NamesIn, row_of, with_time, words_from};
+ghost use Rattle.cdl_table.specs.inner.Scan.{NamesIn, row_of, with_time, words_from};
 ghost use Rattle.cdl_table.specs.TableRow.{row_with};
 
 use crate::cells::{read_time, word_at};

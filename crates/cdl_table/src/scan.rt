@@ -2,7 +2,7 @@
 ghost use Rattle.std.specs.Prelude.{◌≡◌, ◌≤◌, length, IfOk, IfErr, Ok};
 ghost use Rattle.cdl_table.specs.IsTable.{most_table_bytes};
 ghost use Rattle.cdl_table.specs.Rows.{table_records};
-ghost use Rattle.cdl_table.specs.Scan.{Names, table_of};
+ghost use Rattle.cdl_table.specs.inner.Scan.{Names, table_of};
 
 use crate::header::header_column;
 use crate::record::read_row;

@@ -1,5 +1,5 @@
 use Rattle.std.proofs.Common.{◌≡◌, ◌≤◌, ◌+◌, length, map, string_bytes}
-use Rattle.cdl_command.specs.Reads.{due_behind}
+use Rattle.cdl_command.specs.inner.Reads.{due_behind}
 use Rattle.cdl_command.specs.Texts.{FirstHold, HaveTrees}
 use Rattle.cdl_command.proofs.texts.read_models.Given as goal
 

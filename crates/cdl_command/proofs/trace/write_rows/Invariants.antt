@@ -1,5 +1,5 @@
 use Rattle.std.proofs.Common.{◌≡◌, ◌≤◌, take}
-use Rattle.cdl_command.specs.Ticks.{WroteRows}
+use Rattle.cdl_command.specs.inner.Ticks.{WroteRows}
 use Rattle.cdl_command.proofs.trace.write_rows.Given as goal
 
 abbrev pub invariant-loop-number : goal.invariant-loop-number

@@ -3,7 +3,7 @@ ghost use Rattle.std.specs.Prelude.{◌≡◌, ◌<◌, IfOk, length};
 ghost use Rattle.cdl_kinds.specs.History.{IsTime};
 ghost use Rattle.cdl_table.specs.Values.{AreValues, HaveValues};
 
-use super::*;
+use cdl_flat::{Flat, Part, Runner};
 use cdl_kinds::{Steps, ValueType, find};
 use cdl_source::{List, Span, Text};
 use cdl_table::Table;

@@ -3,7 +3,7 @@ use Rattle.std.proofs.Common.{◌≡◌, ◌≤◌, ℤ, pos, List, [], ◌∷�
 use Rattle.std.specs.Prelude.{◌⊎◌, unsigned_abs}
 use Rattle.cdl_decimal.specs.Near.{InRange}
 use Rattle.cdl_table.specs.declared.column.Column.{Column}
-use Rattle.cdl_table.specs.Mixed.{AreMixed}
+use Rattle.cdl_command_tests.specs.Mixed.{AreMixed}
 use Rattle.cdl_table.specs.Values.{AreValues}
 
 mixed-columns : (columns : List Column) (a b c : ℤ) → AreMixed columns → (a ≡ pos 0) ⊎ (a ≡ pos 1) → unsigned_abs b ≤ 2147483647 → InRange c → AreValues columns (a ∷ b ∷ c ∷ [])

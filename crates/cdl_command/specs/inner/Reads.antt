@@ -3,7 +3,7 @@ use Rattle.std.specs.Prelude.{◌≡◌, ◌≤◌, ℕ, zero, suc, List, Option
 use Rattle.cdl_source.specs.Outside.{due_after}
 use Rattle.cdl_source.specs.declared.whole.ReadError.{ReadError}
 use Rattle.cdl_source.specs.declared.whole.ReadError.TheVariants as read
-use Rattle.cdl_command.specs.Stops.{refusal_at}
+use Rattle.cdl_command.specs.inner.Stops.{refusal_at}
 use Rattle.cdl_command.specs.Texts.{Contents, FirstHold, HaveTrees, BreaksText}
 use Rattle.cdl_command.specs.declared.stop.Stop.{Stop}
 use Rattle.cdl_command.specs.declared.stop.Stop.TheVariants.{Refused, ReadFault, OutOfMemory}

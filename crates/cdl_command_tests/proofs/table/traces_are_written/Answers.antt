@@ -1,6 +1,6 @@
 use Rattle.std.proofs.Common.{◌∙◌, arith, inl, inr, refl}
-use Rattle.cdl_table.proofs.MixedLaw.{mixed}
-use Rattle.cdl_table.proofs.tests.traces_are_written.Goals as goal
+use Rattle.cdl_command_tests.proofs.MixedLaw.{mixed}
+use Rattle.cdl_command_tests.proofs.table.traces_are_written.Goals as goal
 
 pub row-requires : goal.row-requires
 row-requires g c = mixed _ _ _ _ _ c.in_ok-outputs.ensures (c.header.ensures.kept ∙ c.in_ok-writer.ensures) (inr refl) (omega arith) (omega arith)
