@@ -9,7 +9,7 @@ ghost use Rattle.cdl_source.specs.Causes.{Rose};
 ghost use Rattle.cdl_source.specs.Outside.{written_after};
 ghost use Rattle.cdl_source.specs.Whole.{WritesSome};
 ghost use Rattle.cdl_table.specs.IsTable.{header_of};
-ghost use Rattle.cdl_table.specs.Trace.{boolean_text, header_text, record_text, word_text, word_texts};
+ghost use Rattle.cdl_table.specs.Trace.{FaultIsAnswered, boolean_text, header_text, record_text, word_text, word_texts};
 ghost use Rattle.cdl_table.specs.Values.{AreValues};
 
 use crate::Column;
@@ -92,14 +92,15 @@ impl TraceWriter {
         })
     }
 
-    /// Writes the first record, `time` and the names of the outputs, by one `write_whole`. `WriteFault` comes only where the
-    /// sink failed. At an error a prefix of the record was written.
+    /// Writes the first record, `time` and the names of the outputs, by one `write_whole`. `WriteFault` comes exactly where
+    /// the sink failed. At an error a prefix of the record was written.
     pub fn header<S: Sink>(&mut self, sink: &mut S) -> Result<(), TraceError>
         ensures ok { OnOk result (S.written sink.new ≡ written_after (S.written sink.old) (header_text self.old)) }
         ensures err { OnErr result (WritesSome (S.written sink.old) (S.written sink.new) (header_text self.old)) }
         ensures kept { self.new ≡ self.old }
         ensures later { S.faults sink.old ≤ S.faults sink.new }
         ensures fault { IsErrOf result TraceError.WriteFault → Rose (S.faults sink.old) (S.faults sink.new) }
+        ensures answered { FaultIsAnswered (S.faults sink.old) (S.faults sink.new) result }
     {
         let fields = header_record(self.alloc, self.outputs.items())?;
         let text = record_bytes(self.alloc, &fields)?;
@@ -109,7 +110,7 @@ impl TraceWriter {
 
     /// Writes the record of one tick by one `write_whole`: its time in milliseconds, and a word for each output, each a value of
     /// its type. A Boolean is written as `true` or `false`, an Integer in decimal, a Real in its canonical text. `WriteFault`
-    /// comes only where the sink failed. At an error a prefix of the record was written.
+    /// comes exactly where the sink failed. At an error a prefix of the record was written.
     pub fn row<S: Sink>(&mut self, now: i64, words: &[i64], sink: &mut S) -> Result<(), TraceError>
         requires { AreValues self.old words.now }
         ensures ok { OnOk result (S.written sink.new ≡ written_after (S.written sink.old) (record_text self.old now words.now)) }
@@ -117,6 +118,7 @@ impl TraceWriter {
         ensures kept { self.new ≡ self.old }
         ensures later { S.faults sink.old ≤ S.faults sink.new }
         ensures fault { IsErrOf result TraceError.WriteFault → Rose (S.faults sink.old) (S.faults sink.new) }
+        ensures answered { FaultIsAnswered (S.faults sink.old) (S.faults sink.new) result }
     {
         let outputs = self.outputs.items();
         fill_record(self.alloc, &mut self.buffer, outputs, now, words)?;
