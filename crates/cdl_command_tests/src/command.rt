@@ -75,8 +75,7 @@ const CASES: &str =
     run M t.csv none.mo~~~time,u1,u2|>4~~read fault|";
 
 // Words that are no job.
-const NO_JOBS: &str =
-    "sample 007\n\
+const NO_JOBS: &str = "sample 007\n\
     check end m.mo\n\
     run M t.csv\n\
     run M t.csv m m m m m m m m m m m m m m m m m m m m m m m m m m m m m m m m m m m m m m m m m m m m m m m m m m m m m m m m m m m m m m m m m";
@@ -86,8 +85,7 @@ const USAGE: &[u8] =
 
 // Tables of the inputs `u1` and `u2` of GATES, and what their runs end with: each rule is broken beside the nearest table that
 // keeps it, and then two rules at once, in one record and in two.
-const TABLES: &str =
-    "time,u1,u2|>0~time,y|~\n\
+const TABLES: &str = "time,u1,u2|>0~time,y|~\n\
     @|\"time\",u1,u2%|%|\"0\",0,0%5,1,0||7,0,\"1>0~time,y|0,false|5,true|7,true|~\n\
     time,u1,u2|0,true|>1~~t.csv:2:1: C61 wrong number of fields|\n\
     time,u1,u2|0,true,1|>0~time,y|0,true|~\n\
@@ -126,8 +124,7 @@ const TWO_MODELS: &str =
 
 // The calls of the files, of the standard output and of the standard error that fail in that job, and what it ends with. Each
 // file is begun, read, and read to its end; each record is written in pieces of at most 7 bytes.
-const FAILING_CALLS: &str =
-    "10 0 0>0~time,y|0,false|1000,true|2000,true|3000,true|~\n\
+const FAILING_CALLS: &str = "10 0 0>0~time,y|0,false|1000,true|2000,true|3000,true|~\n\
     0 10 0>0~time,y|0,false|1000,true|2000,true|3000,true|~\n\
     1 0 0>4~~read fault|\n\
     2 0 0>4~~read fault|\n\
@@ -261,7 +258,7 @@ fn model_ends_so(alloc: Global, model: &[u8], want: &[u8]) -> Result<bool, Fail>
 }
 
 // The calls that fail, in three numbers.
-fn failing(words: &str) -> Result<Failing, Fail> {
+fn failing_calls(words: &str) -> Result<Failing, Fail> {
     let mut numbers = words.split(' ');
     Ok(Failing {
         files: numbers.next().ok_or("no files")?.parse()?,
@@ -299,15 +296,38 @@ fn jobs_end_so(rt: HostRuntime) -> Result<(), Fail> {
 fn limits_are_exact(rt: HostRuntime) -> Result<(), Fail> {
     let alloc = rt.alloc();
     let mut table = longest_table(alloc)?;
-    assert!(rt; gates_end_so(alloc, table.bytes(), "0~time,y|~")?, "longest table");
+    assert!(rt;
+        gates_end_so(alloc, table.bytes(), "0~time,y|~")?,
+        "longest table"
+    );
     table.push(b"\n")?;
-    assert!(rt; gates_end_so(alloc, table.bytes(), "1~~t.csv: C60 table too long|")?, "table too long");
+    assert!(rt;
+        gates_end_so(alloc, table.bytes(), "1~~t.csv: C60 table too long|")?,
+        "table too long"
+    );
     let many = table_of_many_rows(alloc)?;
-    assert!(rt; gates_end_so(alloc, many.bytes(), "1~~t.csv:1000002:1: C66 too many ticks|")?, "too many rows");
+    assert!(rt;
+        gates_end_so(
+            alloc,
+            many.bytes(),
+            "1~~t.csv:1000002:1: C66 too many ticks|"
+        )?,
+        "too many rows"
+    );
     let mut model = longest_model(alloc)?;
-    assert!(rt; model_ends_so(alloc, model.bytes(), b"0~time\n~")?, "longest model");
+    assert!(rt;
+        model_ends_so(alloc, model.bytes(), b"0~time\n~")?,
+        "longest model"
+    );
     model.push(b" ")?;
-    assert!(rt; model_ends_so(alloc, model.bytes(), b"1~~m.mo:2:524274: C1 model file too long\n")?, "model too long");
+    assert!(rt;
+        model_ends_so(
+            alloc,
+            model.bytes(),
+            b"1~~m.mo:2:524274: C1 model file too long\n"
+        )?,
+        "model too long"
+    );
     Ok(())
 }
 
@@ -316,7 +336,10 @@ fn each_call_fails_in_turn(rt: HostRuntime) -> Result<(), Fail> {
     let alloc = rt.alloc();
     for line in FAILING_CALLS.lines() {
         let (calls, want) = line.split_once('>').ok_or("no end")?;
-        assert!(rt; ends_with(alloc, TWO_MODELS, want, failing(calls)?)?, "{line}");
+        assert!(rt;
+            ends_with(alloc, TWO_MODELS, want, failing_calls(calls)?)?,
+            "{line}"
+        );
     }
     Ok(())
 }

@@ -14,8 +14,7 @@ const HEADER: &[u8] = b"time,a,\"u[1,2]\",x\n";
 
 // Texts of tables of those columns, with the words of their rows, of a time and three words each; or with the rule that is
 // broken first, its row and its column. C61 to C65 come in turn, and then two rules at once; at last C62.
-const CASES: &str =
-    "&=\n\
+const CASES: &str = "&=\n\
     &0,true,1,1|=0 1 1 1000000\n\
     &5,false,-1,-1=5 0 -1 -1000000\n\
     &%|5,1,0,0%||6,0,0,0%=5 1 0 0 6 0 0 0\n\

@@ -3,6 +3,7 @@ use Rattle.std.specs.Prelude.{◌≡◌, ◌⊎◌, ℕ, ◌+◌, List, Option, 
 use Rattle.std.specs.Option.{option_map}
 use Rattle.cdl_source.specs.Place.{line_of, column_of}
 use Rattle.cdl_source.specs.declared.place.Place.{Place}
+use Rattle.cdl_source.specs.declared.rules.TheConstants.{NO_SUCH_BLOCK, NOT_BUILT}
 use Rattle.cdl_tree.specs.declared.class.ClassTree.{ClassTree}
 use Rattle.cdl_tree.specs.declared.class.FileTree.{FileTree}
 use Rattle.cdl_classes.specs.Classes.{declared}
@@ -55,6 +56,12 @@ Stops rose refuses (Refused r) = refuses r
 Stops rose refuses ReadFault = rose
 Stops rose refuses OutOfMemory = ⊤
 
+-- No fault of the files is passed over: where their count rose, the stop is a fault.
+abbrev pub FaultIsAnswered : ℕ → ℕ → Stop → Type 0
+FaultIsAnswered before now (Refused r) = now ≡ before
+FaultIsAnswered before now ReadFault = ⊤
+FaultIsAnswered before now OutOfMemory = now ≡ before
+
 -- The name holds a text that breaks a rule of C1 to C8.
 pub record RefusesText (contents : Contents) (name : List ℕ) (file : ℕ) (r : Refusal) : Type 0 where
   pub text : List ℕ
@@ -84,7 +91,7 @@ pub record RefusesClasses (texts : List (List ℕ)) (trees : List FileTree) (r :
 
 abbrev pub RefusesRoot : List ℕ → List FileTree → Refusal → Type 0
 RefusesRoot class trees r =
-    IsUnbroken (declared trees) × (block_named (declared trees) (cut class) ≡ None) × (r ≡ refusal_of 14 root_path)
+    IsUnbroken (declared trees) × (block_named (declared trees) (cut class) ≡ None) × (r ≡ refusal_of NO_SUCH_BLOCK root_path)
 
 abbrev pub StopsAtClasses : List ℕ → List (List ℕ) → List FileTree → Stop → Type 0
 StopsAtClasses class texts trees = Stops ⊥ (λ r. RefusesClasses texts trees r ⊎ RefusesRoot class trees r)
@@ -109,7 +116,7 @@ pub record RefusesBlock (root : Root) (r : Refusal) : Type 0 where
   pub tree : ClassTree
   pub tree_is : IsRootTree root tree
   pub not_flat : IsFlatRoot (declared root.classes) root.id tree → ⊥
-  pub refusal_is : r ≡ refusal_of 9 root_path
+  pub refusal_is : r ≡ refusal_of NOT_BUILT root_path
 
 -- The name holds a text that breaks a rule of tables.
 pub record RefusesTable (contents : Contents) (name : List ℕ) (inputs : List Column) (r : Refusal) : Type 0 where

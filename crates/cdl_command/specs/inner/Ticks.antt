@@ -1,5 +1,5 @@
 -- What the writing of ticks leaves.
-use Rattle.std.specs.Prelude.{◌≡◌, ◌⊎◌, ℕ, ◌<◌, ℤ, List, length, take, Option}
+use Rattle.std.specs.Prelude.{◌≡◌, ◌⊎◌, ℕ, ◌<◌, ℤ, List, length, take, Option, ⊤}
 use Rattle.cdl_source.specs.Outside.{written_after}
 use Rattle.cdl_source.specs.Whole.{WritesSome}
 use Rattle.cdl_flat.specs.Blocks.{Block}
@@ -40,6 +40,12 @@ abbrev pub CutsTick : Block → TableRow → Option (List ℕ) → Option (List 
 CutsTick block row old new rose (RangeFault time path) = Faults block row path × (row.time ≡ time) × (new ≡ old)
 CutsTick block row old new rose WriteFault = rose × SomeOfTick block row old new
 CutsTick block row old new rose OutOfMemory = SomeOfTick block row old new
+
+-- No fault of the sink is passed over: where its count rose, the stop is a fault.
+abbrev pub FaultIsAnswered : ℕ → ℕ → TickStop → Type 0
+FaultIsAnswered before now (RangeFault time path) = now ≡ before
+FaultIsAnswered before now WriteFault = ⊤
+FaultIsAnswered before now OutOfMemory = now ≡ before
 
 -- The records of these rows were written.
 abbrev pub WroteRows : Block → List TableRow → Option (List ℕ) → Option (List ℕ) → Type 0
