@@ -1,7 +1,11 @@
 //! `cdl`, a compiler and runner for the Control Description Language: the program over `cdl_command`.
 #![tactic(auto)]
 
-use cdl_command::command;
+ghost use Rattle.std.specs.Prelude.{◌≡◌};
+ghost use Rattle.std.specs.Process.{exit_status};
+ghost use Rattle.cdl_command.specs.Outcome.{code_of};
+
+use cdl_command::{Outcome, command};
 use cdl_source::{HostFiles, HostSink};
 use std::process::ExitCode;
 use std::rt::Env;
@@ -14,6 +18,13 @@ fn given_words<R: Env + AllocGlobal>(rt: &R) -> io::Result<Vec<String>> {
     Ok(args.collect(rt.alloc())?)
 }
 
+// The status with which the program ends.
+fn exit(outcome: &Outcome) -> ExitCode
+    ensures { exit_status result ≡ code_of outcome.now }
+{
+    ExitCode::from(outcome.code())
+}
+
 fn main(rt: HostRuntime) -> ExitCode {
     let mut files = HostFiles::new(&rt);
     let mut out = HostSink::new(io::writer(&rt));
@@ -22,5 +33,5 @@ fn main(rt: HostRuntime) -> ExitCode {
         Ok(words) => command(rt.alloc(), &words, &mut files, &mut out, &mut err),
         Err(_) => command(rt.alloc(), &[], &mut files, &mut out, &mut err),
     };
-    ExitCode::from(outcome.code())
+    exit(&outcome)
 }

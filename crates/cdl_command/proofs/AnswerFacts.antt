@@ -1,9 +1,10 @@
 -- What stands once standard error was told.
-use Rattle.std.proofs.Common.{◌≡◌, ◌∙◌, ℕ, List, Option, Some, sym, subst, inl, inr}
+use Rattle.std.proofs.Common.{◌≡◌, ◌⊎◌, ◌∙◌, ℕ, List, Option, Some, Result, Ok, Err, IfOk, MatchResult, ap, sym, subst, inl, inr}
 use Rattle.cdl_command.specs.Job.{Task}
 use Rattle.cdl_command.specs.Texts.{Contents}
 use Rattle.cdl_command.specs.Answer.{GrewBySome, OutAfter}
-use Rattle.cdl_command.specs.Told.{Reports}
+use Rattle.cdl_command.specs.Outcome.{err_text, no_memory_text}
+use Rattle.cdl_command.specs.Told.{Reports, TakesMemory, Tells}
 use Rattle.cdl_command.specs.Top.{OutAfterWords}
 use Rattle.cdl_command.specs.declared.outcome.Outcome.{Outcome}
 use Rattle.cdl_command.specs.declared.outcome.Outcome.TheVariants.{Done, Refused, Usage, RangeFault, ReadFault, WriteFault, OutOfMemory}
@@ -18,19 +19,61 @@ grew task contents ReadFault old new o = inl o
 grew task contents WriteFault old new o = o
 grew task contents OutOfMemory old new o = o
 
-pub after_report : (task : Task) (contents : Contents) (line column : ℕ) (due result : Outcome) (old new err_old err_new : Option (List ℕ)) (rose : Type 0)
-    → Reports task line column due result err_old err_new rose → OutAfter task contents due old new → OutAfterWords (Some task) contents result old new
-after_report task contents line column due result old new err_old err_new rose (inl (inl told)) o =
-    inl (subst (λ d. OutAfter task contents d old new) (sym told.0) o)
-after_report task contents line column due result old new err_old err_new rose (inl (inr fault)) o = inr (fault.0, (due, o))
-after_report task contents line column due result old new err_old err_new rose (inr (inl told)) o =
-    inl (subst (λ d. OutAfter task contents d old new) (sym told.0) (grew task contents due old new o))
-after_report task contents line column due result old new err_old err_new rose (inr (inr fault)) o = inr (fault.0, (due, o))
+-- A fault of standard output alone gives the outcome WriteFault; want of memory in place of a text is no fault.
+pub after_report : (task : Task) (contents : Contents) (line column : ℕ) (due result : Outcome) (old new err_old err_new : Option (List ℕ)) (out_rose rose : Type 0)
+    → Reports task line column due result err_old err_new rose → OutAfter task contents due old new → (due ≡ WriteFault → out_rose) → OutAfterWords (Some task) contents result old new out_rose rose
+after_report task contents line column due result old new err_old err_new out_rose rose (inl (inl told)) o cause =
+    inl (subst (λ d. OutAfter task contents d old new) (sym told.0) o, λ is. cause (sym told.0 ∙ is))
+after_report task contents line column due result old new err_old err_new out_rose rose (inl (inr fault)) o cause = inr (fault.0, fault.1, (due, o))
+after_report task contents line column due result old new err_old err_new out_rose rose (inr (m, inl told)) o cause =
+    inl (subst (λ d. OutAfter task contents d old new) (sym told.0) (grew task contents due old new o), λ is. absurd (cc (told.0, is)))
+after_report task contents line column due result old new err_old err_new out_rose rose (inr (m, inr fault)) o cause = inr (fault.0, fault.1, (due, o))
 
 -- What ends Done was done.
 pub due_is_done : (task : Task) (line column : ℕ) (due result : Outcome) (err_old err_new : Option (List ℕ)) (rose : Type 0) → Reports task line column due result err_old err_new rose
     → result ≡ Done → due ≡ Done
 due_is_done task line column due result err_old err_new rose (inl (inl told)) done = sym told.0 ∙ done
 due_is_done task line column due result err_old err_new rose (inl (inr fault)) done = absurd (cc (fault.0, done))
-due_is_done task line column due result err_old err_new rose (inr (inl told)) done = absurd (cc (told.0, done))
-due_is_done task line column due result err_old err_new rose (inr (inr fault)) done = absurd (cc (fault.0, done))
+due_is_done task line column due result err_old err_new rose (inr (m, inl told)) done = absurd (cc (told.0, done))
+due_is_done task line column due result err_old err_new rose (inr (m, inr fault)) done = absurd (cc (fault.0, done))
+
+-- A fault of the files is told as one, unless standard error failed.
+pub read_fault_told : (task : Task) (line column : ℕ) (due result : Outcome) (err_old err_new : Option (List ℕ)) (rose : Type 0) → Reports task line column due result err_old err_new rose
+    → due ≡ ReadFault → (result ≡ ReadFault) ⊎ ((result ≡ WriteFault) × rose)
+read_fault_told task line column ReadFault result err_old err_new rose (inl (inl told)) is = inl told.0
+read_fault_told task line column ReadFault result err_old err_new rose (inl (inr fault)) is = inr (fault.0, fault.1)
+read_fault_told task line column ReadFault result err_old err_new rose (inr (m, told)) is = absurd m
+read_fault_told task line column Done result err_old err_new rose r is = absurd (cc is)
+read_fault_told task line column (Refused rule spot) result err_old err_new rose r is = absurd (cc is)
+read_fault_told task line column Usage result err_old err_new rose r is = absurd (cc is)
+read_fault_told task line column (RangeFault time path) result err_old err_new rose r is = absurd (cc is)
+read_fault_told task line column WriteFault result err_old err_new rose r is = absurd (cc is)
+read_fault_told task line column OutOfMemory result err_old err_new rose r is = absurd (cc is)
+
+-- A fault of standard output is told as one.
+pub write_fault_told : (task : Task) (line column : ℕ) (due result : Outcome) (err_old err_new : Option (List ℕ)) (rose : Type 0) → Reports task line column due result err_old err_new rose
+    → due ≡ WriteFault → result ≡ WriteFault
+write_fault_told task line column WriteFault result err_old err_new rose (inl (inl told)) is = told.0
+write_fault_told task line column WriteFault result err_old err_new rose (inl (inr fault)) is = fault.0
+write_fault_told task line column WriteFault result err_old err_new rose (inr (m, told)) is = absurd m
+write_fault_told task line column Done result err_old err_new rose r is = absurd (cc is)
+write_fault_told task line column (Refused rule spot) result err_old err_new rose r is = absurd (cc is)
+write_fault_told task line column Usage result err_old err_new rose r is = absurd (cc is)
+write_fault_told task line column (RangeFault time path) result err_old err_new rose r is = absurd (cc is)
+write_fault_told task line column ReadFault result err_old err_new rose r is = absurd (cc is)
+write_fault_told task line column OutOfMemory result err_old err_new rose r is = absurd (cc is)
+
+-- ---- what is told of an outcome
+
+-- the fixed text of an outcome was told
+pub told_as : (task : Task) (line column : ℕ) (outcome due result : Outcome) (text : List ℕ) (old new : Option (List ℕ)) (rose : Type 0) → outcome ≡ due → text ≡ err_text task line column due
+    → Tells outcome text result old new rose → Reports task line column outcome result old new rose
+told_as task line column outcome due result text old new rose is same told =
+    inl (subst (λ x. Tells outcome x result old new rose) (same ∙ ap (err_text task line column) (sym is)) told)
+
+-- the text that was made for an outcome was told, or want of memory in its place
+pub told_made : {E : Type 0} (task : Task) (line column : ℕ) (outcome result : Outcome) (made : Result (List ℕ) E) (old new : Option (List ℕ)) (rose : Type 0) → TakesMemory outcome
+    → IfOk made (λ text. text ≡ err_text task line column outcome)
+    → MatchResult made (λ text. Tells outcome text result old new rose) (λ _. Tells OutOfMemory no_memory_text result old new rose) → Reports task line column outcome result old new rose
+told_made task line column outcome result (Ok text) old new rose takes is told = inl (subst (λ x. Tells outcome x result old new rose) is told)
+told_made task line column outcome result (Err e) old new rose takes is told = inr (takes, told)

@@ -6,3 +6,4 @@ pub mod TableFacts
 pub mod TickFacts
 pub mod RunFacts
 pub mod AnswerFacts
+pub mod ReadFacts

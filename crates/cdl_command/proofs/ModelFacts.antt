@@ -8,8 +8,8 @@ use Rattle.cdl_source.specs.declared.place.Place.{Place}
 use Rattle.cdl_lex.specs.Rules.Breaks.{too_long}
 use Rattle.cdl_lex.specs.TokenList.{longest_text}
 use Rattle.cdl_tree.specs.declared.class.FileTree.{FileTree}
-use Rattle.cdl_command.specs.Reads.{AreShort, due_behind}
-use Rattle.cdl_command.specs.Stops.{Stops, StopsInTexts, RefusesText}
+use Rattle.cdl_command.specs.inner.Reads.{AreShort, due_behind}
+use Rattle.cdl_command.specs.inner.Stops.{Stops, StopsInTexts, RefusesText}
 use Rattle.cdl_command.specs.declared.stop.Refusal.{Refusal}
 use Rattle.cdl_command.specs.declared.stop.Stop.{Stop}
 use Rattle.cdl_command.specs.declared.stop.Stop.TheVariants.{Refused, ReadFault, OutOfMemory}

@@ -11,9 +11,9 @@ use Rattle.cdl_classes.specs.Classes.{Declared, Full, declared}
 use Rattle.cdl_classes.specs.Lookup.{first_of, sort_of}
 use Rattle.cdl_classes.specs.Table.{block_of as block_named, if_block}
 use Rattle.cdl_flat.specs.Blocks.{Block}
-use Rattle.cdl_command.specs.Reads.{AreModels}
+use Rattle.cdl_command.specs.inner.Reads.{AreModels}
 use Rattle.cdl_command.specs.Roots.{IsRoot, IsFlatRoot, flat_root}
-use Rattle.cdl_command.specs.Stops.{HasRoot, HasFlat, IsRootTree}
+use Rattle.cdl_command.specs.inner.Stops.{HasRoot, HasFlat, IsRootTree}
 use Rattle.cdl_command.specs.Texts.{Contents}
 use Rattle.cdl_command.specs.Verdict.{Run, AllRead, IsRunnable}
 use Rattle.cdl_command.specs.declared.root.Root.{Root}

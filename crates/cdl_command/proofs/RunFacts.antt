@@ -1,6 +1,7 @@
 -- What each end of a run answers.
 use Rattle.std.proofs.Common.{◌<◌, ◌≡◌, ◌⊎◌, ◌∙◌, ◌+◌, ℕ, List, [], length, take, slice_get, Option, None, Some, IfSome, refl, sym, ap, subst, inl, inr, arith}
 use Rattle.std.proofs.lemmas.Option.{slice_get_cases, slice_get_past, slice_get_within}
+use Rattle.cdl_source.specs.Outside.{told}
 use Rattle.cdl_source.specs.Place.{line_of, column_of}
 use Rattle.cdl_source.specs.declared.place.Place.{Place}
 use Rattle.cdl_tree.specs.declared.class.FileTree.{FileTree}
@@ -10,12 +11,12 @@ use Rattle.cdl_table.specs.declared.column.Column.{Column}
 use Rattle.cdl_table.specs.TableRow.{TableRow}
 use Rattle.cdl_command.specs.Job.{Task, RunOf}
 use Rattle.cdl_command.specs.Answer.{GrewBySome, OutAfter, IsAt, IsAtSpot, StandsIn}
-use Rattle.cdl_command.specs.Reads.{AreModels}
+use Rattle.cdl_command.specs.inner.Reads.{AreModels}
 use Rattle.cdl_command.specs.Roots.{IsFlatRoot}
-use Rattle.cdl_command.specs.Stops.{Stops, StopsInTexts, StopsAtClasses, RefusesText, RefusesClasses, RefusesRoot, RefusesBlock, RefusesTable, HasRoot, HasFlat, refusal_at, refusal_in, refusal_at_some, ended_of, plain_end}
+use Rattle.cdl_command.specs.inner.Stops.{FaultIsAnswered, Stops, StopsInTexts, StopsAtClasses, RefusesText, RefusesClasses, RefusesRoot, RefusesBlock, RefusesTable, HasRoot, HasFlat, refusal_at, refusal_in, refusal_at_some, ended_of, plain_end}
 use Rattle.cdl_command.specs.Tables.{HoldsRows, BreaksTable}
 use Rattle.cdl_command.specs.Texts.{Contents, Holds, FirstHold, HaveTrees}
-use Rattle.cdl_command.specs.Ticks.{RunsRows, SomeOfTrace}
+use Rattle.cdl_command.specs.inner.Ticks.{RunsRows, SomeOfTrace}
 use Rattle.cdl_command.specs.Top.{Works, BeginsInOrder}
 use Rattle.cdl_command.specs.Verdict.{Run, IsRunnable, Verdict, text_rule, class_rule, no_block, not_built, table_rule, ran, model, all_models, the_table}
 use Rattle.cdl_command.specs.declared.outcome.Outcome.{Outcome}
@@ -52,10 +53,11 @@ stopped contents run before now here rr wr refuses stop.OutOfMemory old up answe
     record { out = inl refl; at = tt; read = λ is. absurd (cc is); write = λ is. absurd (cc is); begun = begun }
 
 -- the place of a text stands in its line and column, where the contents are told
-told_at : (o : Option (List ℕ)) (text : List ℕ) (byte : ℕ) → IfSome o (λ bytes. text ≡ bytes)
-    → IfSome o (λ bytes. StandsIn bytes byte (line_of (take byte text)) (column_of (take byte text)))
-told_at None text byte holds = tt
-told_at (Some bytes) text byte holds = (ap (λ b. line_of (take byte b)) holds, ap (λ b. column_of (take byte b)) holds)
+told_at : (contents : Contents) (name text : List ℕ) (byte : ℕ) → Holds contents name text
+    → IfSome (told contents name) (λ bytes. StandsIn bytes byte (line_of (take byte text)) (column_of (take byte text)))
+told_at None name text byte holds = tt
+told_at (Some c) name text byte holds =
+    subst (λ o. IfSome o (λ bytes. StandsIn bytes byte (line_of (take byte text)) (column_of (take byte text)))) (sym holds) (refl, refl)
 
 -- where the name of a number is known, so is what holds of it
 known : (P : List ℕ → Type 0) (o : Option (List ℕ)) (name : List ℕ) → o ≡ Some name → P name → IfSome o P
@@ -65,8 +67,8 @@ known P (Some n) name is p = let same : name ≡ n = cc is in subst P same p
 at_text : (contents : Contents) (names : List (List ℕ)) (rule : ℕ) (place : Place) (name text : List ℕ) → slice_get names place.file ≡ Some name → Holds contents name text
     → IsAtSpot names contents (refusal_at rule place text).spot (refusal_at rule place text).line (refusal_at rule place text).column
 at_text contents names rule place name text is holds =
-    known (λ n. IfSome (contents n) (λ bytes. StandsIn bytes place.byte (line_of (take place.byte text)) (column_of (take place.byte text)))) (slice_get names place.file) name is
-    (told_at (contents name) text place.byte holds)
+    known (λ n. IfSome (told contents n) (λ bytes. StandsIn bytes place.byte (line_of (take place.byte text)) (column_of (take place.byte text)))) (slice_get names place.file) name is
+    (told_at contents name text place.byte holds)
 
 -- ---- a stop in the texts
 
@@ -112,7 +114,7 @@ at_some contents names texts rule place (Some text) is hold all =
     let held = held_at contents names texts place.file text hold is in
     at_text contents names rule place held.0 text held.1 held.2
 at_some contents names texts rule place None is hold all =
-    no_name names texts place.file (λ name. IfSome (contents name) (λ bytes. StandsIn bytes place.byte 1 1)) all is
+    no_name names texts place.file (λ name. IfSome (told contents name) (λ bytes. StandsIn bytes place.byte 1 1)) all is
 
 spot_of : (rule : ℕ) (place : Place) (o : Option (List ℕ)) → ((refusal_at_some rule place o).rule ≡ rule) × ((refusal_at_some rule place o).spot ≡ Source place)
 spot_of rule place (Some text) = (refl, refl)
@@ -237,3 +239,14 @@ runs_ticks contents kept run before mid now rr wr models root block rows old new
       write = rest.2;
       begun = table_begun contents run before mid now block runs begun table;
     }
+
+-- ---- faults of the files
+
+-- where the count rose, the stop was a fault
+pub fault_told : (before now : ℕ) (s : Stop) → FaultIsAnswered before now s → before < now → (ended_of s).outcome ≡ ReadFault
+fault_told before now (stop.Refused r) same rose = absurd (omega (arith, same, rose))
+fault_told before now stop.ReadFault same rose = refl
+fault_told before now stop.OutOfMemory same rose = absurd (omega (arith, same, rose))
+
+pub fault_behind : (before mid now : ℕ) (s : Stop) → mid ≡ before → FaultIsAnswered mid now s → FaultIsAnswered before now s
+fault_behind before mid now s same h = subst (λ n. FaultIsAnswered n now s) same h

@@ -1,9 +1,10 @@
 -- From the bytes of a model to its tree, or to the rule that it breaks first.
-use Rattle.std.proofs.Common.{◌≡◌, ◌∙◌, ◌≤◌, ◌<◌, ℕ, List, [], ◌∷◌, ◌++◌, length, take, Option, Some, None, IfSome, Ok, refl, sym, subst, inl, inr, length-append, arith}
+use Rattle.std.proofs.Common.{◌≡◌, ◌∙◌, ◌≤◌, ◌<◌, ℕ, List, [], ◌∷◌, ◌++◌, length, take, Option, Some, None, Ok, Err, refl, sym, subst, inl, inr, length-append, arith}
 use Rattle.std.proofs.lemmas.List.{take_all}
 use Rattle.std.proofs.Math.Seq.{take-append_seam}
 use Rattle.cdl_source.specs.Place.{line_of, column_of}
-use Rattle.cdl_source.specs.Whole.{KeepsHead}
+use Rattle.cdl_source.specs.Outside.{told, IsAbsent}
+use Rattle.cdl_source.specs.Whole.{KeepsHead, FaultIsAnswered as ReadFaultIsAnswered}
 use Rattle.cdl_source.specs.declared.place.Place.{Place}
 use Rattle.cdl_source.specs.declared.place.Token.{Token}
 use Rattle.cdl_source.specs.declared.whole.ReadError.{ReadError}
@@ -15,10 +16,11 @@ use Rattle.cdl_tree.specs.declared.class.FileTree.{FileTree}
 use Rattle.cdl_tree.specs.Terminals.{terminals}
 use Rattle.cdl_parse.specs.Verdict.{Closes, IsTree, IsRefused, word_of}
 use Rattle.cdl_parse.specs.declared.ParseFault.TheVariants.{Rule}
-use Rattle.cdl_command.specs.Reads.{stop_of, IsShortHead}
-use Rattle.cdl_command.specs.Stops.{Stops, RefusesText, refusal_at}
+use Rattle.cdl_command.specs.inner.Reads.{stop_of, IsShortHead}
+use Rattle.cdl_command.specs.inner.Stops.{FaultIsAnswered, Stops, RefusesText, refusal_at}
 use Rattle.cdl_command.specs.Texts.{Contents, Holds, IsTreeOf, HasTree, BreaksText}
 use Rattle.cdl_command.specs.declared.stop.Refusal.{Refusal}
+use Rattle.cdl_command.proofs.ReadFacts.{longer}
 
 -- the tokens that were found close into the tree
 tree_is : (t : TokenList) (bytes : List ℕ) (tree : FileTree) → t.bytes ≡ bytes → BreaksNone bytes → Splits bytes t.items → Closes (word_of t) tree → IsTreeOf bytes tree
@@ -34,11 +36,6 @@ pub tree_found : (t : TokenList) (bytes : List ℕ) (tree : FileTree) → t.byte
     → Closes (word_of t) tree → ((other : FileTree) → Closes (word_of t) other → IsTree other (Ok tree)) → HasTree bytes tree
 tree_found t bytes tree b none splits lexed found only =
     (tree_is t bytes tree b none splits found, λ other o. sym (only other (closed t bytes b lexed other o)))
-
-pub grammar_broken : (t : TokenList) (file : ℕ) (bytes : List ℕ) (rule : ℕ) (place : Place) → t.file ≡ file → t.bytes ≡ bytes → BreaksNone bytes → Splits bytes t.items
-    → IsRefused t (Rule rule place) → BreaksText file bytes rule place
-grammar_broken t file bytes rule place f b none splits broken =
-    inr (record { none_broken = none; tokens = t; file_is = f; bytes_are = b; splits = splits; broken = broken })
 
 -- A rule of tokens has a number from 1 on, and rule 1 is broken behind the longest text.
 number : {bytes : List ℕ} {r p : ℕ} → Breaks bytes r p → (1 ≤ r) × (r ≡ 1 → p ≡ longest_text)
@@ -57,17 +54,6 @@ first_too_long text long =
       earliest = λ earlier l b. absurd (omega (arith, l, (number b).1 refl));
     }
 
--- A text that is too long, where only its head was read.
-longer : (o : Option (List ℕ)) (head : List ℕ) → length head ≡ longest_text → IfSome o (λ bytes. (longest_text < length bytes) × (head ≡ take longest_text bytes))
-    → (text : List ℕ) × IfSome o (λ bytes. text ≡ bytes) × (longest_text < length text) × (head ≡ take longest_text text)
-longer None head l k = (
-  head ++ 0 ∷ [],
-  tt,
-  (simp length-append (omega (arith, l))),
-  subst (λ n. head ≡ take n (head ++ 0 ∷ [])) l (sym (take-append_seam head (0 ∷ []))),
-)
-longer (Some bytes) head l k = (bytes, refl, k.0, k.1)
-
 -- the place behind the longest text stands in the head's line and column
 at_head : (file : ℕ) (head text : List ℕ) → length head ≡ longest_text → head ≡ take longest_text text
     → refusal_at 1 (record { file = file; byte = longest_text }) head ≡ refusal_at 1 (record { file = file; byte = longest_text }) text
@@ -77,28 +63,23 @@ at_head file head text l k =
     ≡ (record { rule = 1; spot = (refusal_at 1 (record { file = file; byte = longest_text }) text).spot; line = line_of front; column = column_of front }) in
     subst P same refl
 
-pub not_whole_read : (contents : Contents) (name : List ℕ) (file : ℕ) (e : ReadError) (rose : Type 0) → (e ≡ Failed → rose) → KeepsHead longest_text (contents name) e
-    → Stops rose (RefusesText contents name file) (stop_of e file)
-not_whole_read contents name file Failed rose failed keeps = failed refl
-not_whole_read contents name file (TooLarge head) rose failed keeps =
-    let t = longer (contents name) head keeps.0 keeps.1 in
+pub not_whole_read : (contents : Contents) (name : List ℕ) (file : ℕ) (e : ReadError) (rose : Type 0) → (e ≡ Failed → rose) → (IsAbsent contents name → e ≡ Failed)
+    → KeepsHead longest_text (told contents name) e → Stops rose (RefusesText contents name file) (stop_of e file)
+not_whole_read contents name file Failed rose failed absent keeps = failed refl
+not_whole_read contents name file (TooLarge head) rose failed absent keeps =
+    let t = longer longest_text contents name head (λ none. absurd (cc (absent none))) keeps in
     record {
       text = t.0;
       rule = 1;
       place = record { file = file; byte = longest_text };
-      holds = t.1;
-      broken = inl (refl, first_too_long t.0 t.2);
-      refusal_is = at_head file head t.0 keeps.0 t.3;
+      holds = t.1.holds;
+      broken = inl (refl, first_too_long t.0 t.1.long);
+      refusal_is = at_head file head t.0 keeps.0 t.1.head_is;
     }
-not_whole_read contents name file OutOfMemory rose failed keeps = tt
+not_whole_read contents name file OutOfMemory rose failed absent keeps = tt
 
-pub short_head : (contents : Option (List ℕ)) (e : ReadError) → KeepsHead longest_text contents e → IsShortHead e
-short_head contents Failed keeps = tt
-short_head contents (TooLarge head) keeps = omega (arith, keeps.0)
-short_head contents OutOfMemory keeps = tt
-
--- the text that was read breaks this rule
-pub text_refused : (contents : Contents) (name : List ℕ) (file : ℕ) (text : List ℕ) (rule : ℕ) (place : Place) (r : Refusal) → Holds contents name text → BreaksText file text rule place
-    → r ≡ refusal_at rule place text → RefusesText contents name file r
-text_refused contents name file text rule place r holds broken is =
-    record { text = text; rule = rule; place = place; holds = holds; broken = broken; refusal_is = is }
+-- a fault of a model is answered as one
+pub fault_answered : (before now file : ℕ) (e : ReadError) → ReadFaultIsAnswered before now (Err e) → FaultIsAnswered before now (stop_of e file)
+fault_answered before now file Failed h = tt
+fault_answered before now file (TooLarge head) h = h
+fault_answered before now file OutOfMemory h = h

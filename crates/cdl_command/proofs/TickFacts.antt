@@ -1,18 +1,19 @@
 -- The ticks of a block, and the records that were written of them.
-use Rattle.std.proofs.Common.{◌≡◌, ◌∙◌, ◌+◌, ◌≤◌, ◌<◌, ℕ, suc, ℤ, pos, List, [], ◌∷◌, ◌++◌, length, take, drop, slice_get, Option, Some, None, Result, Ok, Err, OnOk, IfErr, refl, sym, ap, subst, inl, inr, append_assoc, append-nil, length-append, arith}
+use Rattle.std.proofs.Common.{◌≡◌, ◌∙◌, ◌+◌, ◌≤◌, ◌<◌, ℕ, suc, ℤ, pos, List, [], ◌∷◌, ◌++◌, length, take, drop, slice_get, Option, Some, None, Result, Ok, Err, IfErr, refl, sym, ap, subst, inl, inr, append_assoc, append-nil, length-append, arith}
 use Rattle.std.proofs.lemmas.List.{take_all, take-append-le, take_more, take-append-drop}
 use Rattle.std.proofs.lemmas.Option.{slice_get_within}
 use Rattle.std.proofs.Math.Seq.{take-append-add, drop-cons}
 use Rattle.cdl_source.specs.Outside.{written_after}
+use Rattle.cdl_source.proofs.Written.{written_after-append}
 use Rattle.cdl_source.specs.Whole.{WritesSome}
 use Rattle.cdl_flat.specs.declared.part.Component.{Component}
 use Rattle.cdl_flat.specs.Blocks.{Block}
 use Rattle.cdl_flat.specs.Solution.{HasSolution, GivesOutputs, HasFault}
 use Rattle.cdl_table.specs.declared.column.Column.{Column}
 use Rattle.cdl_table.specs.TableRow.{TableRow, row_at, row_with}
-use Rattle.cdl_table.specs.Trace.{header_text, record_text}
+use Rattle.cdl_table.specs.Trace.{FaultIsAnswered as TraceFaultIsAnswered, header_text, record_text}
 use Rattle.cdl_command.specs.Runs.{Gives, AreRecords, Faults, whole, cut, path_of}
-use Rattle.cdl_command.specs.Ticks.{WroteTick, SomeOfTick, CutsTick, WroteRows, FrontOfRows, CutsRows, SomeOfTrace, WroteTrace, FaultsIn, CutsTrace, EndsWith, IsFaulted, stop_of}
+use Rattle.cdl_command.specs.inner.Ticks.{FaultIsAnswered, WroteTick, SomeOfTick, CutsTick, WroteRows, FrontOfRows, CutsRows, SomeOfTrace, WroteTrace, FaultsIn, CutsTrace, EndsWith, IsFaulted, stop_of}
 use Rattle.cdl_table.specs.declared.trace.TraceError.{TraceError}
 use Rattle.cdl_table.specs.declared.trace.TraceError.TheVariants as trace
 use Rattle.cdl_command.specs.declared.trace.TickStop.{TickStop}
@@ -78,11 +79,6 @@ component_named block same j name is named = subst (λ (b : Block). (c : Compone
 
 -- ---- the rows
 
--- two pieces are one
-written_twice : (w : Option (List ℕ)) (a b : List ℕ) → written_after (written_after w a) b ≡ written_after w (a ++ b)
-written_twice None a b = refl
-written_twice (Some old) a b = ap Some (append_assoc old a b)
-
 -- the front of a text is the front of a longer one
 some_front : (old new : Option (List ℕ)) (a b : List ℕ) → WritesSome old new a → WritesSome old new (a ++ b)
 some_front old new a b w =
@@ -97,7 +93,7 @@ some_behind : (old mid new : Option (List ℕ)) (a b : List ℕ) → mid ≡ wri
 some_behind old mid new a b all w = (
   length a + w.0,
   (let few : w.0 ≤ length b = w.1 in simp length-append (omega arith)),
-  w.2 ∙ ap (λ m. written_after m (take w.0 b)) all ∙ written_twice old a (take w.0 b) ∙ ap (written_after old) (sym (take-append-add a b w.0)),
+  w.2 ∙ ap (λ m. written_after m (take w.0 b)) all ∙ written_after-append old a (take w.0 b) ∙ ap (written_after old) (sym (take-append-add a b w.0)),
 )
 
 -- all of a text is a front of it
@@ -128,7 +124,7 @@ rows_more block rows i old mid new within w t = (
   subst (λ rs. AreRecords block rs (w.0 ++ record_text block.declared.outputs (row_at rows i).time t.words)) (sym (take_more rows i no_row within))
       (records_more block (take i rows) (row_at rows i) w.0 t.words w.1 t.gives),
   t.written ∙ ap (λ m. written_after m (record_text block.declared.outputs (row_at rows i).time t.words)) w.2
-      ∙ written_twice old w.0 (record_text block.declared.outputs (row_at rows i).time t.words),
+      ∙ written_after-append old w.0 (record_text block.declared.outputs (row_at rows i).time t.words),
 )
 
 front_of_rows : (block : Block) (rows : List TableRow) (i : ℕ) (old mid new : Option (List ℕ)) → i < length rows → WroteRows block (take i rows) old mid → SomeOfTick block (row_at rows i) mid new
@@ -158,7 +154,7 @@ trace_behind : (block : Block) (rows : List TableRow) (old mid new : Option (Lis
 trace_behind block rows old mid new h w = (
   header_text block.declared.outputs ++ w.0,
   (w.0, w.1, refl),
-  w.2 ∙ ap (λ m. written_after m w.0) h ∙ written_twice old (header_text block.declared.outputs) w.0,
+  w.2 ∙ ap (λ m. written_after m w.0) h ∙ written_after-append old (header_text block.declared.outputs) w.0,
 )
 
 pub wrote_trace : (block : Block) (columns : List Column) (rows : List TableRow) (old mid new : Option (List ℕ)) → columns ≡ block.declared.outputs → mid ≡ written_after old (header_text columns)
@@ -205,10 +201,6 @@ header_stops block columns rows old new rose trace.OutOfMemory c w fault = heade
 
 -- ---- how the rows end
 
-pub on_ok : {A E P Q : Type 0} (r : Result A E) → (P → Q) → OnOk r P → OnOk r Q
-on_ok (Ok a) f p = f p
-on_ok (Err e) f p = tt
-
 pub if_err : {A E : Type 0} {P Q : E → Type 0} (r : Result A E) → ((e : E) → P e → Q e) → IfErr r P → IfErr r Q
 if_err (Ok a) f p = tt
 if_err (Err e) f p = f e p
@@ -224,3 +216,17 @@ ends_cut block rows time path old new f = (
       (sym (take-append-drop f.count rows) ∙ ap (λ d. take f.count rows ++ d) (drop-cons rows f.count no_row f.within)) f.wrote.1 f.fault f.time_is,
   f.wrote.2,
 )
+
+-- ---- faults of the sink
+
+-- a fault of a record is answered as one
+pub stop_answered : (before now : ℕ) (e : TraceError) → TraceFaultIsAnswered {T = Unit {0}} before now (Err e) → FaultIsAnswered before now (stop_of e)
+stop_answered before now trace.WriteFault h = tt
+stop_answered before now trace.OutOfMemory h = h
+
+pub faulted_answered : (count : ℕ) (time : ℤ) (name : List ℕ) (s : TickStop) → IsFaulted time name s → FaultIsAnswered count count s
+faulted_answered count time name s (inl is) = subst (FaultIsAnswered count count) (sym is) refl
+faulted_answered count time name s (inr is) = subst (FaultIsAnswered count count) (sym is) refl
+
+pub answered_behind : (before mid now : ℕ) (s : TickStop) → mid ≡ before → FaultIsAnswered mid now s → FaultIsAnswered before now s
+answered_behind before mid now s same h = subst (λ n. FaultIsAnswered n now s) same h

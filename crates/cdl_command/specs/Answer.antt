@@ -1,7 +1,8 @@
 -- What a job answers to the contents of the names, and what it leaves on standard output.
 use Rattle.std.specs.Prelude.{◌≡◌, ◌⊎◌, ℕ, List, [], Option, Some, None, IfSome, MatchOption, slice_get, take, ⊤}
 use Rattle.std.specs.Option.{ForSome}
-use Rattle.cdl_source.specs.Outside.{written_after, DueBeginsWith}
+use Rattle.cdl_source.specs.Outside.{told, written_after, DueBeginsWith}
+use Rattle.cdl_source.specs.declared.rules.TheConstants.{NOT_BUILT}
 use Rattle.cdl_source.specs.Place.{line_of, column_of}
 use Rattle.cdl_flat.specs.Blocks.{Block}
 use Rattle.cdl_table.specs.TableRow.{TableRow}
@@ -23,7 +24,7 @@ built _ = None
 
 -- what a job of another verb is answered
 abbrev pub job_refused : Outcome
-job_refused = Refused 9 root_path
+job_refused = Refused NOT_BUILT root_path
 
 -- the answer to a job: the outcome, and the text on standard output
 abbrev pub Answers : Task → Contents → Outcome → List ℕ → Type 0
@@ -73,7 +74,7 @@ StandsIn text byte line column = (line ≡ line_of (take byte text)) × (column 
 -- the same of a spot in one of the models, where its contents are told
 abbrev pub IsAtSpot : List (List ℕ) → Contents → Spot → ℕ → ℕ → Type 0
 IsAtSpot models contents (Source place) line column =
-    IfSome (slice_get models place.file) (λ name. IfSome (contents name) (λ text. StandsIn text place.byte line column))
+    IfSome (slice_get models place.file) (λ name. IfSome (told contents name) (λ text. StandsIn text place.byte line column))
 IsAtSpot models contents _ line column = Unit {0}
 
 abbrev pub IsAt : Task → Contents → Outcome → ℕ → ℕ → Type 0

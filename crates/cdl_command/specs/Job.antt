@@ -1,10 +1,10 @@
 -- Which words are a job, with nothing before or after them.
-use Rattle.std.specs.Prelude.{ℕ, ◌+◌, ◌-◌, ◌*◌, ◌==◌, ◌&&◌, nat_le, not, Bool, List, [], ◌∷◌, length, map, string_bytes, Option, Some, None, if◌then◌else◌, codes, get_or}
+use Rattle.std.specs.Prelude.{ℕ, ◌+◌, ◌-◌, ◌*◌, ◌==◌, ◌&&◌, nat_le, not, Bool, List, [], ◌∷◌, length, map, string_bytes, Option, Some, None, if◌then◌else◌, codes}
 use Rattle.std.specs.List.{list_all, slice_split}
 use Rattle.std.specs.Option.{option_map}
 use Rattle.std.specs.Str.{bytes_eq}
-use Rattle.cdl_lex.specs.Keywords.{is_keyword}
-use Rattle.cdl_lex.specs.Spellings.{is_digit, is_word}
+use Rattle.cdl_source.specs.Identifiers.{is_digit, is_identifier}
+use Rattle.cdl_source.specs.declared.limits.TheConstants.{MOST_MODELS}
 use Rattle.cdl_command.specs.declared.job.Job.{Job}
 use Rattle.cdl_command.specs.declared.job.Job.TheVariants.{Check, Run, Cxf, CheckCxf, RunCxf, Sample}
 
@@ -17,11 +17,6 @@ pub data Task : Type 0 where
   RunCxfOf : List ℕ → List ℕ → Task
   SampleOf : ℕ → Task
 
--- letters, digits and `_`, and no digit first; 1 to 64 bytes, and no keyword
-abbrev pub is_identifier : List ℕ → Bool
-is_identifier word =
-    nat_le 1 (length word) && nat_le (length word) 64 && not (is_keyword word) && not (is_digit (get_or word 0 0)) && list_all is_word word
-
 -- identifiers with points between them
 abbrev pub is_class_name : List ℕ → Bool
 is_class_name word = list_all is_identifier (slice_split (λ c. c == 46) word)
@@ -29,9 +24,9 @@ is_class_name word = list_all is_identifier (slice_split (λ c. c == 46) word)
 abbrev pub is_file_name : List ℕ → Bool
 is_file_name word = not (length word == 0)
 
--- 1 to 64 names of models
+-- at least one name of a model, and no more than a job may have
 abbrev pub are_models : List (List ℕ) → Bool
-are_models words = nat_le 1 (length words) && nat_le (length words) 64 && list_all is_file_name words
+are_models words = nat_le 1 (length words) && nat_le (length words) MOST_MODELS && list_all is_file_name words
 
 abbrev pub largest_sample : ℕ
 largest_sample = 2000

@@ -6,8 +6,6 @@ pub mod Tables
 pub mod Runs
 pub mod Verdict
 pub mod Answer
-pub mod Stops
-pub mod Reads
-pub mod Ticks
 pub mod Told
 pub mod Top
+pub mod inner

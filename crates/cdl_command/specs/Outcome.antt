@@ -1,6 +1,8 @@
 -- What each outcome is told by: the exit code, and the text on standard error.
 use Rattle.std.specs.Prelude.{ℕ, ℤ, ◌==◌, ◌≤◌, nat_lt, length, List, [], ◌∷◌, ◌++◌, if◌then◌else◌, codes, decimal, get_or}
 use Rattle.std.specs.Fmt.{signed_decimal}
+use Rattle.cdl_source.specs.declared.limits.TheConstants.{MOST_MODELS}
+use Rattle.cdl_source.specs.declared.rules.TheConstants.{MODEL_TOO_LONG, NOT_UTF8, NO_TOKEN, PAST_LIMITS, NESTED_TOO_DEEPLY, EXPRESSION_TOO_LONG, SYNTAX, WRONG_END_NAME, NOT_BUILT, DECLARED_TWICE, NAME_NOT_FREE, NAME_NOT_FOUND, NOT_SUPPORTED, NO_SUCH_BLOCK, TABLE_TOO_LONG, WRONG_FIELD_COUNT, WRONG_HEADER, NOT_A_TIME, TIME_DOES_NOT_RISE, NOT_A_VALUE, TOO_MANY_TICKS, NOT_JSON}
 use Rattle.cdl_command.specs.declared.job.Job.{Job}
 use Rattle.cdl_command.specs.Job.{Task, task_of_job, CheckOf, RunOf, CxfOf, CheckCxfOf, RunCxfOf, SampleOf}
 use Rattle.cdl_command.specs.declared.outcome.Outcome.{Outcome}
@@ -24,9 +26,9 @@ models_of (RunOf class table models) = models
 models_of (CxfOf class models) = models
 models_of _ = []
 
--- a job has at most 64 models
+-- a job has no more models than it may have
 abbrev pub HasFewModels : Job → Type 0
-HasFewModels job = length (models_of (task_of_job job)) ≤ 64
+HasFewModels job = length (models_of (task_of_job job)) ≤ MOST_MODELS
 
 abbrev pub table_of : Task → List ℕ
 table_of (RunOf class table models) = table
@@ -50,27 +52,27 @@ files_of (SampleOf n) = []
 -- the text of each rule
 abbrev pub rule_text : ℕ → List ℕ
 rule_text rule =
-    if rule == 1 then codes "model file too long"
-    else if rule == 2 then codes "not UTF-8"
-    else if rule == 3 then codes "no token here"
-    else if rule == 4 then codes "literal or identifier past its limits"
-    else if rule == 5 then codes "nested too deeply"
-    else if rule == 6 then codes "expression too long"
-    else if rule == 7 then codes "syntax"
-    else if rule == 8 then codes "wrong name after end"
-    else if rule == 9 then codes "not built yet"
-    else if rule == 10 then codes "name declared twice"
-    else if rule == 11 then codes "name not free"
-    else if rule == 12 then codes "name not found"
-    else if rule == 13 then codes "not supported here"
-    else if rule == 14 then codes "no such block"
-    else if rule == 60 then codes "table too long"
-    else if rule == 61 then codes "wrong number of fields"
-    else if rule == 62 then codes "wrong header"
-    else if rule == 63 then codes "not a time"
-    else if rule == 64 then codes "time doesn't rise"
-    else if rule == 65 then codes "not a value of its type"
-    else if rule == 66 then codes "too many ticks"
+    if rule == MODEL_TOO_LONG then codes "model file too long"
+    else if rule == NOT_UTF8 then codes "not UTF-8"
+    else if rule == NO_TOKEN then codes "no token here"
+    else if rule == PAST_LIMITS then codes "literal or identifier past its limits"
+    else if rule == NESTED_TOO_DEEPLY then codes "nested too deeply"
+    else if rule == EXPRESSION_TOO_LONG then codes "expression too long"
+    else if rule == SYNTAX then codes "syntax"
+    else if rule == WRONG_END_NAME then codes "wrong name after end"
+    else if rule == NOT_BUILT then codes "not built yet"
+    else if rule == DECLARED_TWICE then codes "name declared twice"
+    else if rule == NAME_NOT_FREE then codes "name not free"
+    else if rule == NAME_NOT_FOUND then codes "name not found"
+    else if rule == NOT_SUPPORTED then codes "not supported here"
+    else if rule == NO_SUCH_BLOCK then codes "no such block"
+    else if rule == TABLE_TOO_LONG then codes "table too long"
+    else if rule == WRONG_FIELD_COUNT then codes "wrong number of fields"
+    else if rule == WRONG_HEADER then codes "wrong header"
+    else if rule == NOT_A_TIME then codes "not a time"
+    else if rule == TIME_DOES_NOT_RISE then codes "time doesn't rise"
+    else if rule == NOT_A_VALUE then codes "not a value of its type"
+    else if rule == TOO_MANY_TICKS then codes "too many ticks"
     else []
 
 -- NAME:LINE:COLUMN
@@ -85,7 +87,7 @@ spot_text task line column rule (Statement path place) = position_text (get_or (
 spot_text task line column rule (Wire left right) = left ++ codes " to " ++ right
 spot_text task line column rule (Cell row field) = position_text (table_of task) row field
 spot_text task line column rule (Node node) = document_of task ++ codes ": node " ++ decimal node
-spot_text task line column rule Whole = if nat_lt rule 70 then table_of task else document_of task
+spot_text task line column rule Whole = if nat_lt rule NOT_JSON then table_of task else document_of task
 
 abbrev pub usage_text : List ℕ
 usage_text = codes "usage: cdl check CLASS MODEL.. | run CLASS TABLE MODEL.. | cxf CLASS MODEL.. | checkcxf DOC | runcxf TABLE DOC | sample N\n"
@@ -97,6 +99,9 @@ refusal_text task line column rule spot =
 abbrev pub range_fault_text : ℤ → List ℕ → List ℕ
 range_fault_text time path = codes "range fault at " ++ signed_decimal time ++ codes " in " ++ path ++ codes "\n"
 
+abbrev pub no_memory_text : List ℕ
+no_memory_text = codes "out of memory\n"
+
 -- the text on standard error for the outcome of a job
 abbrev pub err_text : Task → ℕ → ℕ → Outcome → List ℕ
 err_text task line column Done = []
@@ -105,4 +110,4 @@ err_text task line column Usage = usage_text
 err_text task line column (RangeFault time path) = range_fault_text time path
 err_text task line column ReadFault = codes "read fault\n"
 err_text task line column WriteFault = codes "write fault\n"
-err_text task line column OutOfMemory = codes "out of memory\n"
+err_text task line column OutOfMemory = no_memory_text

@@ -1,8 +1,10 @@
 -- The tables of a block's inputs, and the first rule that a text breaks.
 use Rattle.std.specs.Prelude.{◌≡◌, ◌≤◌, ◌<◌, ◌⊎◌, ℕ, List, length}
+use Rattle.cdl_source.specs.declared.limits.TheConstants.{LONGEST_TABLE}
+use Rattle.cdl_source.specs.declared.rules.TheConstants.{TABLE_TOO_LONG}
 use Rattle.cdl_table.specs.declared.column.Column.{Column}
 use Rattle.cdl_table.specs.Broken.{IsFirstBroken}
-use Rattle.cdl_table.specs.IsTable.{IsTable, most_table_bytes}
+use Rattle.cdl_table.specs.IsTable.{IsTable}
 use Rattle.cdl_table.specs.Rows.{table_records}
 use Rattle.cdl_table.specs.TableRow.{TableRow}
 use Rattle.cdl_command.specs.Texts.{Contents, Holds}
@@ -11,7 +13,7 @@ use Rattle.cdl_command.specs.declared.outcome.Spot.TheVariants.{Cell, Whole}
 
 -- the text is a table of these inputs with these rows
 abbrev pub IsTableText : List Column → List ℕ → List TableRow → Type 0
-IsTableText inputs bytes rows = (length bytes ≤ most_table_bytes) × IsTable inputs (table_records bytes) rows
+IsTableText inputs bytes rows = (length bytes ≤ LONGEST_TABLE) × IsTable inputs (table_records bytes) rows
 
 -- the text is a table of these inputs with these rows, and with no others
 abbrev pub HasRows : List Column → List ℕ → List TableRow → Type 0
@@ -23,11 +25,11 @@ HoldsRows contents name inputs rows = (bytes : List ℕ) × Holds contents name 
 
 -- The text is too long: C60, of the table as a whole.
 abbrev pub IsTooLong : List ℕ → ℕ → Spot → Type 0
-IsTooLong bytes rule spot = (most_table_bytes < length bytes) × (rule ≡ 60) × (spot ≡ Whole)
+IsTooLong bytes rule spot = (LONGEST_TABLE < length bytes) × (rule ≡ TABLE_TOO_LONG) × (spot ≡ Whole)
 
 -- The text isn't too long, and its records break this rule first, at the cell of this spot.
 pub record HasBrokenCell (inputs : List Column) (bytes : List ℕ) (rule : ℕ) (spot : Spot) : Type 0 where
-  pub short : length bytes ≤ most_table_bytes
+  pub short : length bytes ≤ LONGEST_TABLE
   pub row : ℕ
   pub column : ℕ
   pub broken : IsFirstBroken inputs (table_records bytes) rule row column

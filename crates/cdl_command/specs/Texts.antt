@@ -1,5 +1,6 @@
 -- The texts of models: what the names hold, which tree a text has, and which rule of texts it breaks first.
-use Rattle.std.specs.Prelude.{◌≡◌, ◌⊎◌, ℕ, List, [], ◌∷◌, Option, IfSome}
+use Rattle.std.specs.Prelude.{◌≡◌, ◌⊎◌, ℕ, List, [], ◌∷◌, Option, None, Some}
+use Rattle.cdl_source.specs.Outside as outside
 use Rattle.cdl_source.specs.declared.place.Place.{Place}
 use Rattle.cdl_source.specs.declared.place.Token.{Token}
 use Rattle.cdl_lex.specs.Rules.{BreaksNone, IsFirstBroken}
@@ -10,13 +11,14 @@ use Rattle.cdl_tree.specs.Terminals.{terminals}
 use Rattle.cdl_parse.specs.Verdict.{Closes, IsRefused}
 use Rattle.cdl_parse.specs.declared.ParseFault.TheVariants.{Rule}
 
--- the contents of each name, where they are told
+-- what each name holds, where it is told
 abbrev pub Contents : Type 0
-Contents = List ℕ → Option (List ℕ)
+Contents = Option outside.Contents
 
--- The name holds this text, where its contents are told.
+-- The name holds this text, where it is told what the names hold. An absent name holds none.
 abbrev pub Holds : Contents → List ℕ → List ℕ → Type 0
-Holds contents name text = IfSome (contents name) (λ bytes. text ≡ bytes)
+Holds None name text = Unit {0}
+Holds (Some held) name text = held name ≡ Some text
 
 -- The first of the names hold these texts, in order.
 abbrev pub FirstHold : Contents → List (List ℕ) → List (List ℕ) → Type 0

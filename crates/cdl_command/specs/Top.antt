@@ -27,12 +27,15 @@ pub record Works (task : Task) (contents : Contents) (before now : ℕ) (read_ro
 abbrev pub BegunFor : Option Task → Contents → ℕ → ℕ → Type 0
 BegunFor task contents before now = MatchOption task (now ≡ before) (λ t. BeginsInOrder t contents before now)
 
--- What stands on standard output after the words were answered. Where standard error failed, the outcome is WriteFault
--- whatever the work of the job ended with, and standard output is as that left it.
-abbrev pub OutAfterWords : Option Task → Contents → Outcome → Option (List ℕ) → Option (List ℕ) → Type 0
-OutAfterWords task contents result old new =
+-- What stands on standard output after the words were answered: what the outcome leaves, which is WriteFault only where
+-- standard output failed. Or standard error failed: then the outcome is WriteFault whatever the work of the job ended with,
+-- and standard output is as that left it.
+abbrev pub OutAfterWords : Option Task → Contents → Outcome → Option (List ℕ) → Option (List ℕ) → Type 0 → Type 0 → Type 0
+OutAfterWords task contents result old new out_rose err_rose =
     MatchOption task (new ≡ old)
-    (λ t. OutAfter t contents result old new ⊎ ((result ≡ WriteFault) × ((due : Outcome) × OutAfter t contents due old new)))
+    (λ t.
+    (OutAfter t contents result old new × (result ≡ WriteFault → out_rose))
+    ⊎ ((result ≡ WriteFault) × err_rose × ((due : Outcome) × OutAfter t contents due old new)))
 
 -- The text of an outcome that the work of a job ended with was told, or of want of memory in its place.
 pub record IsTold (task : Task) (contents : Contents) (result : Outcome) (out_old out_new old new : Option (List ℕ)) (rose : Type 0) : Type 0 where

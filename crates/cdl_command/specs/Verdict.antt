@@ -1,6 +1,7 @@
 -- What a run answers to the contents of its models and of its table.
 use Rattle.std.specs.Prelude.{◌≡◌, ℕ, ◌+◌, ◌<◌, List, [], ◌∷◌, ◌++◌, length, None, codes}
 use Rattle.cdl_source.specs.declared.place.Place.{Place}
+use Rattle.cdl_source.specs.declared.rules.TheConstants.{NO_SUCH_BLOCK, NOT_BUILT}
 use Rattle.cdl_tree.specs.declared.class.ClassTree.{ClassTree}
 use Rattle.cdl_tree.specs.declared.class.FileTree.{FileTree}
 use Rattle.cdl_classes.specs.declared.found.ClassId.{ClassId}
@@ -60,10 +61,10 @@ pub data Verdict (contents : Contents) (run : Run) : Outcome → List ℕ → Ty
       → BreaksFirst (declared trees) rule place → Verdict contents run (Refused rule (Source place)) []
   -- they break none, and the class is no declared block
   no_block : (trees : List FileTree) → AllRead contents run.models trees → IsUnbroken (declared trees)
-      → block_named (declared trees) (cut_name run.class) ≡ None → Verdict contents run (Refused 14 root_path) []
+      → block_named (declared trees) (cut_name run.class) ≡ None → Verdict contents run (Refused NO_SUCH_BLOCK root_path) []
   -- it is a block, but not one of those that are built
   not_built : (trees : List FileTree) (root : ClassId) (tree : ClassTree) → AllRead contents run.models trees
-      → IsRoot run.class trees root tree → (IsFlatRoot (declared trees) root tree → ⊥) → Verdict contents run (Refused 9 root_path) []
+      → IsRoot run.class trees root tree → (IsFlatRoot (declared trees) root tree → ⊥) → Verdict contents run (Refused NOT_BUILT root_path) []
   -- the table breaks this rule of C60 to C66 first
   table_rule : {rule : ℕ} {spot : Spot} (block : Block) (bytes : List ℕ) → IsRunnable contents run block → Holds contents run.table bytes
       → BreaksTable block.declared.inputs bytes rule spot → Verdict contents run (Refused rule spot) []

@@ -2,16 +2,11 @@
 ghost use Rattle.std.specs.Prelude.{◌≡◌, ◌+◌, ◌-◌, ◌*◌, ◌^◌, ◌<◌, map, string_bytes, IfSome};
 ghost use Rattle.std.specs.Option.{option_map};
 ghost use Rattle.cdl_command.specs.Outcome.{HasFewModels};
-ghost use Rattle.cdl_lex.specs.Spellings as spec;
-ghost use Rattle.cdl_command.specs.Job.{is_identifier, is_class_name, is_file_name, are_models, sample_size, task_of, check_of, run_of, cxf_of, check_cxf_of, run_cxf_of, sample_of, task_of_job};
+ghost use Rattle.cdl_command.specs.Job.{is_class_name, is_file_name, are_models, sample_size, task_of, check_of, run_of, cxf_of, check_cxf_of, run_cxf_of, sample_of, task_of_job};
 
-use cdl_lex::is_keyword;
+use cdl_source::{MOST_MODELS, is_digit, is_identifier};
 
-// The most models of a job, the most bytes of an identifier, and the greatest size of a sample.
-const MOST_MODELS: usize = 64;
-
-const LONGEST_NAME: usize = 64;
-
+// The greatest size of a sample.
 const LARGEST_SAMPLE: u32 = 2000;
 
 /// What the words ask for: one variant for each verb.
@@ -177,27 +172,7 @@ fn are_files(words: &[String]) -> bool
 fn is_class(word: &String) -> bool
     ensures { result ≡ is_class_name (string_bytes word.now) }
 {
-    word.as_bytes().split(|c| *c == b'.').all(is_name)
-}
-
-// Whether a word is an identifier of at most 64 bytes.
-fn is_name(word: &[u8]) -> bool
-    ensures { result ≡ is_identifier word.now }
-{
-    if word.is_empty() || word.len() > LONGEST_NAME || is_keyword(word) || is_digit(word[0]) {
-        return false;
-    }
-    word.iter().all(|c| is_word(*c))
-}
-
-fn is_digit(c: u8) -> bool
-    ensures { result ≡ spec.is_digit c }
-{
-    b'0' <= c && c <= b'9'
-}
-
-fn is_word(c: u8) -> bool
-    ensures { result ≡ spec.is_word c }
-{
-    c.is_ascii_uppercase() || c.is_ascii_lowercase() || c == b'_' || is_digit(c)
+    word.as_bytes()
+        .split(|c| *c == b'.')
+        .all(|name| is_identifier(name))
 }

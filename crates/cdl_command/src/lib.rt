@@ -15,6 +15,3 @@ mod trace;
 pub use job::{Job, words};
 pub use outcome::{Outcome, Spot};
 pub use top::command;
-
-#[cfg(test)]
-mod tests;

@@ -1,15 +1,15 @@
 // What standard error is told of an outcome.
-ghost use Rattle.std.specs.Prelude.{◌≡◌, ◌++◌, ◌≤◌, [], IfOk, OnOk, decimal, get_or, map, string_bytes};
+ghost use Rattle.std.specs.Prelude.{◌≡◌, ◌++◌, ◌≤◌, [], IfOk, OnOk, MatchResult, decimal, get_or, map, string_bytes};
 ghost use Rattle.std.specs.Fmt.{signed_decimal};
 ghost use Rattle.cdl_source.specs.Causes.{Rose};
 ghost use Rattle.cdl_command.specs.Job.{task_of_job};
 ghost use Rattle.cdl_command.specs.Outcome as spec;
-ghost use Rattle.cdl_command.specs.Outcome.{usage_text};
+ghost use Rattle.cdl_command.specs.Outcome.{no_memory_text, usage_text};
 ghost use Rattle.cdl_command.specs.Told.{Tells, Reports};
 
 use crate::job::Job;
 use crate::outcome::{Outcome, Spot};
-use cdl_source::{Failed, OutOfMemory, Sink, Text, write_whole};
+use cdl_source::{Failed, OutOfMemory, Sink, Text, rules, write_whole};
 use itoa::Buffer;
 use std::alloc::Global;
 
@@ -17,9 +17,6 @@ const USAGE: &[u8] =
     b"usage: cdl check CLASS MODEL.. | run CLASS TABLE MODEL.. | cxf CLASS MODEL.. | checkcxf DOC | runcxf TABLE DOC | sample N\n";
 
 const NO_MEMORY: &[u8] = b"out of memory\n";
-
-// The rules up to this one are of a table, where a spot is a whole file, and the others of a document.
-const FIRST_CXF_RULE: u32 = 70;
 
 fn push_number(text: &mut Text, n: u32) -> Result<(), OutOfMemory>
     ensures { OnOk result (text.new ≡ text.old ++ decimal n) }
@@ -117,7 +114,7 @@ fn push_spot(
             push_number(text, *node)
         }
         Spot::Whole => {
-            if rule < FIRST_CXF_RULE {
+            if rule < rules::NOT_JSON {
                 return text.push(table_of(job).as_bytes());
             }
             text.push(document_of(job).as_bytes())
@@ -129,27 +126,27 @@ fn rule_text(rule: u32) -> &'static [u8]
     ensures { result.now ≡ spec.rule_text rule }
 {
     match rule {
-        1 => b"model file too long",
-        2 => b"not UTF-8",
-        3 => b"no token here",
-        4 => b"literal or identifier past its limits",
-        5 => b"nested too deeply",
-        6 => b"expression too long",
-        7 => b"syntax",
-        8 => b"wrong name after end",
-        9 => b"not built yet",
-        10 => b"name declared twice",
-        11 => b"name not free",
-        12 => b"name not found",
-        13 => b"not supported here",
-        14 => b"no such block",
-        60 => b"table too long",
-        61 => b"wrong number of fields",
-        62 => b"wrong header",
-        63 => b"not a time",
-        64 => b"time doesn't rise",
-        65 => b"not a value of its type",
-        66 => b"too many ticks",
+        rules::MODEL_TOO_LONG => b"model file too long",
+        rules::NOT_UTF8 => b"not UTF-8",
+        rules::NO_TOKEN => b"no token here",
+        rules::PAST_LIMITS => b"literal or identifier past its limits",
+        rules::NESTED_TOO_DEEPLY => b"nested too deeply",
+        rules::EXPRESSION_TOO_LONG => b"expression too long",
+        rules::SYNTAX => b"syntax",
+        rules::WRONG_END_NAME => b"wrong name after end",
+        rules::NOT_BUILT => b"not built yet",
+        rules::DECLARED_TWICE => b"name declared twice",
+        rules::NAME_NOT_FREE => b"name not free",
+        rules::NAME_NOT_FOUND => b"name not found",
+        rules::NOT_SUPPORTED => b"not supported here",
+        rules::NO_SUCH_BLOCK => b"no such block",
+        rules::TABLE_TOO_LONG => b"table too long",
+        rules::WRONG_FIELD_COUNT => b"wrong number of fields",
+        rules::WRONG_HEADER => b"wrong header",
+        rules::NOT_A_TIME => b"not a time",
+        rules::TIME_DOES_NOT_RISE => b"time doesn't rise",
+        rules::NOT_A_VALUE => b"not a value of its type",
+        rules::TOO_MANY_TICKS => b"too many ticks",
         _ => b"",
     }
 }
@@ -207,37 +204,21 @@ pub(crate) fn usage<E: Sink>(err: &mut E) -> Outcome
     tell(Outcome::Usage, USAGE, err)
 }
 
-fn fixed(alloc: Global, bytes: &[u8]) -> Result<Text, OutOfMemory>
-    ensures { IfOk result (λ text. text ≡ bytes.now) }
+// Tells an outcome by the text that was made for it, or want of memory in its place.
+fn tell_made<E: Sink>(outcome: Outcome, made: Result<Text, OutOfMemory>, err: &mut E) -> Outcome
+    ensures told { MatchResult made
+        (λ text. Tells outcome text result (E.written err.old) (E.written err.new) (Rose (E.faults err.old) (E.faults err.new)))
+        (λ _. Tells Outcome.OutOfMemory no_memory_text result (E.written err.old) (E.written err.new) (Rose (E.faults err.old) (E.faults err.new))) }
+    ensures later { E.faults err.old ≤ E.faults err.new }
 {
-    let mut text = Text::new(alloc);
-    text.push(bytes)?;
-    Ok(text)
-}
-
-// The text of an outcome whose place stands in this line and column.
-fn message(
-    alloc: Global,
-    job: Job<'_>,
-    line: u32,
-    column: u32,
-    outcome: &Outcome,
-) -> Result<Text, OutOfMemory>
-    ensures { IfOk result (λ text. text ≡ spec.err_text (task_of_job job.entry) line column outcome.now) }
-{
-    match outcome {
-        Outcome::Refused { rule, spot } => refusal(alloc, job, line, column, *rule, spot),
-        Outcome::RangeFault { time, path } => range_fault(alloc, time, path),
-        Outcome::Done => Ok(Text::new(alloc)),
-        Outcome::Usage => fixed(alloc, USAGE),
-        Outcome::ReadFault => fixed(alloc, b"read fault\n"),
-        Outcome::WriteFault => fixed(alloc, b"write fault\n"),
-        Outcome::OutOfMemory => fixed(alloc, NO_MEMORY),
+    match made {
+        Ok(text) => tell(outcome, text.bytes(), err),
+        Err(OutOfMemory) => tell(Outcome::OutOfMemory, NO_MEMORY, err),
     }
 }
 
-/// Tells `err` of an outcome of a job, whose place stands in this line and column. Where there is no memory for its text,
-/// want of memory is the outcome.
+/// Tells `err` of an outcome of a job, whose place stands in this line and column. Where there is no memory for the text of
+/// a refusal or of a range fault, want of memory is the outcome. The other texts take no memory.
 pub(crate) fn report<E: Sink>(
     alloc: Global,
     job: Job<'_>,
@@ -249,8 +230,19 @@ pub(crate) fn report<E: Sink>(
     ensures told { Reports (task_of_job job.entry) line column outcome result (E.written err.old) (E.written err.new) (Rose (E.faults err.old) (E.faults err.new)) }
     ensures later { E.faults err.old ≤ E.faults err.new }
 {
-    match message(alloc, job, line, column, &outcome) {
-        Ok(text) => tell(outcome, text.bytes(), err),
-        Err(OutOfMemory) => tell(Outcome::OutOfMemory, NO_MEMORY, err),
+    match &outcome {
+        Outcome::Refused { rule, spot } => {
+            let made = refusal(alloc, job, line, column, *rule, spot);
+            tell_made(outcome, made, err)
+        }
+        Outcome::RangeFault { time, path } => {
+            let made = range_fault(alloc, time, path);
+            tell_made(outcome, made, err)
+        }
+        Outcome::Done => tell(outcome, b"", err),
+        Outcome::Usage => tell(outcome, USAGE, err),
+        Outcome::ReadFault => tell(outcome, b"read fault\n", err),
+        Outcome::WriteFault => tell(outcome, b"write fault\n", err),
+        Outcome::OutOfMemory => tell(outcome, NO_MEMORY, err),
     }
 }

@@ -2,22 +2,18 @@
 ghost use Rattle.std.specs.Prelude.{◌≡◌, ◌≤◌, ◌<◌, IfOk, IfErr, length};
 ghost use Rattle.cdl_classes.specs.Classes.{declared};
 ghost use Rattle.cdl_command.specs.Roots as spec;
-ghost use Rattle.cdl_command.specs.Reads.{AreShort};
-ghost use Rattle.cdl_command.specs.Stops.{Stops, StopsAtClasses, HasRoot, HasFlat, RefusesBlock, refusal_in};
+ghost use Rattle.cdl_command.specs.inner.Reads.{AreShort};
+ghost use Rattle.cdl_command.specs.inner.Stops.{Stops, StopsAtClasses, HasRoot, HasFlat, RefusesBlock, refusal_in};
 ghost use Rattle.cdl_command.specs.Texts.{HaveTrees};
 
 use crate::outcome::Spot;
 use crate::stop::{Refusal, Stop, refusal_at, refusal_of, refused_root};
 use cdl_classes::{ClassFault, ClassId, ClassTable, Found};
 use cdl_flat::{Flat, Part};
-use cdl_source::{List, OutOfMemory, Place, Text};
+use cdl_source::rules::{NO_SUCH_BLOCK, NOT_BUILT};
+use cdl_source::{List, MOST_MODELS, OutOfMemory, Place, Text};
 use cdl_tree::{FileTree, Item};
 use std::alloc::Global;
-
-// The rules of a form that is not built yet, and of a class that is no block.
-const NOT_BUILT: u32 = 9;
-
-const NO_BLOCK: u32 = 14;
 
 /// The declared classes, and the number of the block that is run.
 #[derive(Drop)]
@@ -44,7 +40,7 @@ pub(crate) fn root_of(
     texts: &[Text],
     trees: List<FileTree>,
 ) -> Result<Root, Stop>
-    requires few { length trees ≤ 64 }
+    requires few { length trees ≤ MOST_MODELS }
     requires have { HaveTrees texts.now trees }
     ensures ok { IfOk result (HasRoot class.now trees) }
     ensures err { IfErr result (StopsAtClasses class.now texts.now trees) }
@@ -58,7 +54,7 @@ pub(crate) fn root_of(
     };
     match classes.root(class) {
         Some(id) => Ok(Root { classes, id }),
-        None => Err(refused_root(alloc, NO_BLOCK)),
+        None => Err(refused_root(alloc, NO_SUCH_BLOCK)),
     }
 }
 

@@ -13,7 +13,7 @@ use crate::stop::{Ended, plain_end, stopped};
 use crate::table::read_table;
 use crate::texts::{Models, read_models};
 use crate::trace::write_trace;
-use cdl_source::{Files, Sink};
+use cdl_source::{Files, MOST_MODELS, Sink};
 use std::alloc::Global;
 
 /// Reads the models, finds the block of the class in them, reads its table, and writes its trace.
@@ -25,7 +25,7 @@ pub(crate) fn run<F: Files, O: Sink>(
     files: &mut F,
     out: &mut O,
 ) -> Ended
-    requires few { length models.now ≤ 64 }
+    requires few { length models.now ≤ MOST_MODELS }
     requires room { F.begun files.old ≤ 2 ^ 32 }
     requires due { DueBeginsWith (F.due files.old) (map string_bytes models.now ++ table.now ∷ []) }
     ensures works { Works (RunOf class.now table.now (map string_bytes models.now)) (F.contents files.old) (F.begun files.old) (F.begun files.new)
@@ -35,6 +35,8 @@ pub(crate) fn run<F: Files, O: Sink>(
     ensures contents { F.contents files.new ≡ F.contents files.old }
     ensures files_later { F.faults files.old ≤ F.faults files.new }
     ensures out_later { O.faults out.old ≤ O.faults out.new }
+    ensures read_fault { F.faults files.old < F.faults files.new → result.outcome ≡ Outcome.ReadFault }
+    ensures write_fault { O.faults out.old < O.faults out.new → result.outcome ≡ Outcome.WriteFault }
 {
     let Models { texts, trees } = match read_models(alloc, files, models) {
         Ok(models) => models,

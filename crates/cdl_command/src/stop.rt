@@ -1,14 +1,11 @@
 // Why a job stops, and how it ends.
 ghost use Rattle.std.specs.Prelude.{◌≡◌, ◌≤◌, ◌⊎◌, length, take};
-ghost use Rattle.cdl_command.specs.Stops.{refusal_of, refusal_at, plain_end, ended_of};
+ghost use Rattle.cdl_command.specs.inner.Stops.{refusal_of, refusal_at, plain_end, ended_of};
 ghost use Rattle.cdl_command.specs.Verdict.{root_path};
 
 use crate::outcome::{Outcome, Spot};
-use cdl_source::{OutOfMemory, Place, Text, line_column};
+use cdl_source::{LONGEST_MODEL, OutOfMemory, Place, Text, line_column};
 use std::alloc::Global;
-
-/// The most bytes of a model.
-pub(crate) const LONGEST_MODEL: usize = 524_288;
 
 /// A broken rule, where it is broken, and the line and the column of that place in its text; 1 and 1 where it has none.
 #[derive(Drop)]
@@ -94,7 +91,7 @@ pub(crate) fn refusal_of(rule: u32, spot: Spot) -> Refusal
 
 // The number of a byte, or of the end of the text where it has fewer bytes.
 fn within(byte: u32, text: &[u8]) -> u32
-    requires { length text.now ≤ 524288 }
+    requires { length text.now ≤ LONGEST_MODEL }
     ensures within { result ≤ length text.now }
     ensures front { take result text.now ≡ take byte text.now }
 {
@@ -107,7 +104,7 @@ fn within(byte: u32, text: &[u8]) -> u32
 
 /// A broken rule at a place of this text.
 pub(crate) fn refusal_at(rule: u32, place: Place, text: &[u8]) -> Refusal
-    requires { length text.now ≤ 524288 }
+    requires { length text.now ≤ LONGEST_MODEL }
     ensures { result ≡ refusal_at rule place text.now }
 {
     let (line, column) = line_column(text, within(place.byte, text));

@@ -4,19 +4,15 @@ ghost use Rattle.std.specs.Io.KnownBytes.{IsAtEnd};
 ghost use Rattle.cdl_source.specs.Causes.{Rose};
 ghost use Rattle.cdl_source.specs.Outside.{IsNextDue, due_after};
 ghost use Rattle.cdl_table.specs.Values.{HaveValues};
-ghost use Rattle.cdl_command.specs.Stops.{Stops, RefusesTable};
+ghost use Rattle.cdl_command.specs.inner.Stops.{FaultIsAnswered, Stops, RefusesTable};
 ghost use Rattle.cdl_command.specs.Tables.{HoldsRows};
 
 use crate::outcome::Spot;
 use crate::stop::{Stop, refusal_of};
-use cdl_source::{Files, List, ReadError, read_whole};
+use cdl_source::rules::TABLE_TOO_LONG;
+use cdl_source::{Files, LONGEST_TABLE, List, ReadError, read_whole};
 use cdl_table::{Column, Table, TableFault};
 use std::alloc::Global;
-
-// The most bytes of a table, and the rule of one that is longer.
-const LONGEST_TABLE: usize = 33_554_432;
-
-const TABLE_TOO_LONG: u32 = 60;
 
 /// Reads a table of these inputs.
 pub(crate) fn read_table<F: Files>(
@@ -35,6 +31,8 @@ pub(crate) fn read_table<F: Files>(
     ensures values { IfOk result (HaveValues inputs.now) }
     ensures end { OnOk result (IsAtEnd (F.rest files.new)) }
     ensures err { IfErr result (Stops (Rose (F.faults files.old) (F.faults files.new)) (RefusesTable (F.contents files.old) name.now inputs.now)) }
+    ensures kept { OnOk result (F.faults files.new ≡ F.faults files.old) }
+    ensures answered { IfErr result (FaultIsAnswered (F.faults files.old) (F.faults files.new)) }
 {
     let text = match read_whole(alloc, files, name, LONGEST_TABLE) {
         Ok(text) => text,

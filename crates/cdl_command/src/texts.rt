@@ -2,19 +2,19 @@
 ghost use Rattle.std.specs.Prelude.{◌≡◌, ◌≤◌, ◌<◌, ◌+◌, ◌-◌, ◌^◌, IfOk, IfErr, OnOk, length, map, string_bytes};
 ghost use Rattle.cdl_source.specs.Causes.{Rose};
 ghost use Rattle.cdl_source.specs.Outside.{IsNextDue, due_after, DueBeginsWith};
-ghost use Rattle.cdl_command.specs.Reads as spec;
-ghost use Rattle.cdl_command.specs.Stops.{Stops, StopsInTexts, RefusesText};
+ghost use Rattle.cdl_command.specs.inner.Reads as spec;
+ghost use Rattle.cdl_command.specs.inner.Stops.{FaultIsAnswered, Stops, StopsInTexts, RefusesText};
 ghost use Rattle.cdl_command.specs.Texts.{Holds, HasTree};
 
-use crate::stop::{LONGEST_MODEL, Refusal, Stop, refusal_at};
+use crate::stop::{Refusal, Stop, refusal_at};
 use cdl_lex::{LexFault, lex};
 use cdl_parse::{ParseFault, parse};
-use cdl_source::{Files, List, OutOfMemory, Place, ReadError, Text, read_whole};
+use cdl_source::rules::MODEL_TOO_LONG;
+use cdl_source::{
+    Files, LONGEST_MODEL, List, MOST_MODELS, OutOfMemory, Place, ReadError, Text, read_whole,
+};
 use cdl_tree::FileTree;
 use std::alloc::Global;
-
-// The rule of a text that is too long.
-const TOO_LONG: u32 = 1;
 
 /// Why a text has no tree.
 #[derive(Clone, Copy)]
@@ -67,7 +67,7 @@ fn not_whole(e: ReadError, file: u32) -> Stop
                 file,
                 byte: LONGEST_MODEL as u32,
             };
-            Stop::Refused(refusal_at(TOO_LONG, place, head.bytes()))
+            Stop::Refused(refusal_at(MODEL_TOO_LONG, place, head.bytes()))
         }
         ReadError::OutOfMemory => Stop::OutOfMemory,
     }
@@ -84,6 +84,8 @@ fn read_model<F: Files>(alloc: Global, files: &mut F, name: &str, file: u32) -> 
     ensures holds { IfOk result (λ m. Holds (F.contents files.old) name.now m.text) }
     ensures tree { IfOk result (λ m. HasTree m.text m.tree) }
     ensures err { IfErr result (Stops (Rose (F.faults files.old) (F.faults files.new)) (RefusesText (F.contents files.old) name.now file)) }
+    ensures kept { OnOk result (F.faults files.new ≡ F.faults files.old) }
+    ensures answered { IfErr result (FaultIsAnswered (F.faults files.old) (F.faults files.new)) }
 {
     let text = match read_whole(alloc, files, name, LONGEST_MODEL) {
         Ok(text) => text,
@@ -104,7 +106,7 @@ pub(crate) fn read_models<F: Files>(
     files: &mut F,
     names: &[String],
 ) -> Result<Models, Stop>
-    requires few { length names.now ≤ 64 }
+    requires few { length names.now ≤ MOST_MODELS }
     requires room { F.begun files.old ≤ 2 ^ 32 }
     requires due { DueBeginsWith (F.due files.old) (map string_bytes names.now) }
     ensures contents { F.contents files.new ≡ F.contents files.old }
@@ -113,6 +115,8 @@ pub(crate) fn read_models<F: Files>(
     ensures begun { OnOk result (F.begun files.new ≡ F.begun files.old + length names.now) }
     ensures due { OnOk result (F.due files.new ≡ spec.due_behind (length names.now) (F.due files.old)) }
     ensures err { IfErr result (StopsInTexts (F.contents files.old) (map string_bytes names.now) (F.begun files.old) (F.begun files.new) (Rose (F.faults files.old) (F.faults files.new))) }
+    ensures kept { OnOk result (F.faults files.new ≡ F.faults files.old) }
+    ensures answered { IfErr result (FaultIsAnswered (F.faults files.old) (F.faults files.new)) }
 {
     let mut models = Models {
         texts: List::new(alloc),

@@ -1,5 +1,5 @@
 // The top call.
-ghost use Rattle.std.specs.Prelude.{◌≡◌, ◌≢◌, ◌⊎◌, ◌^◌, ◌≤◌, map, string_bytes, None};
+ghost use Rattle.std.specs.Prelude.{◌≡◌, ◌≢◌, ◌⊎◌, ◌^◌, ◌≤◌, ◌<◌, map, string_bytes, None};
 ghost use Rattle.std.specs.Io.KnownBytes.{IsAtEnd};
 ghost use Rattle.cdl_source.specs.Causes.{Rose};
 ghost use Rattle.cdl_source.specs.Outside.{DueBeginsWith};
@@ -13,11 +13,9 @@ use crate::outcome::Outcome;
 use crate::report::{report, usage};
 use crate::run::run;
 use crate::stop::{Ended, refused_root, stopped};
+use cdl_source::rules::NOT_BUILT;
 use cdl_source::{Files, Sink};
 use std::alloc::Global;
-
-// The rule of a verb that is not built yet.
-const NOT_BUILT: u32 = 9;
 
 /// Does what the words ask for, which are those after the program's name: reads files, writes what is due on `out`, and
 /// then the text of the outcome on `err`. docs/COMMAND.md has the verbs, the outcomes and their texts.
@@ -46,6 +44,11 @@ pub fn command<F: Files, O: Sink, E: Sink>(
     ensures read { result ≡ Outcome.ReadFault → Rose (F.faults files.old) (F.faults files.new) }
     ensures write { result ≡ Outcome.WriteFault → Rose (O.faults out.old) (O.faults out.new) ⊎ Rose (E.faults err.old) (E.faults err.new) }
 
+    // A fault is answered as one: none is passed over, and none is told as want of memory.
+    ensures read_fault { F.faults files.old < F.faults files.new
+        → (result ≡ Outcome.ReadFault) ⊎ ((result ≡ Outcome.WriteFault) × Rose (E.faults err.old) (E.faults err.new)) }
+    ensures write_fault { O.faults out.old < O.faults out.new → result ≡ Outcome.WriteFault }
+
     // Done comes only where the files were read to their ends.
     ensures ends { result ≡ Outcome.Done → IsAtEnd (F.rest files.new) }
 
@@ -54,8 +57,10 @@ pub fn command<F: Files, O: Sink, E: Sink>(
     ensures contents { F.contents files.new ≡ F.contents files.old }
 
     // What stands after it: on `out` all that was due to Done, a front of it behind a fault of a sink or want of memory, and
-    // else what stood there before; on `err` the outcome's text.
-    ensures out { OutAfterWords (task_of (map string_bytes words.now)) (F.contents files.old) result (O.written out.old) (O.written out.new) }
+    // else what stood there before; on `err` the outcome's text. Where the outcome is WriteFault and `out` has not failed,
+    // `err` has.
+    ensures out { OutAfterWords (task_of (map string_bytes words.now)) (F.contents files.old) result (O.written out.old) (O.written out.new)
+        (Rose (O.faults out.old) (O.faults out.new)) (Rose (E.faults err.old) (E.faults err.new)) }
     ensures err { ErrAfterWords (task_of (map string_bytes words.now)) (F.contents files.old) result (O.written out.old) (O.written out.new)
         (E.written err.old) (E.written err.new) (Rose (E.faults err.old) (E.faults err.new)) }
 {
@@ -84,6 +89,8 @@ fn work<F: Files, O: Sink>(alloc: Global, job: Job<'_>, files: &mut F, out: &mut
     ensures contents { F.contents files.new ≡ F.contents files.old }
     ensures files_later { F.faults files.old ≤ F.faults files.new }
     ensures out_later { O.faults out.old ≤ O.faults out.new }
+    ensures read_fault { F.faults files.old < F.faults files.new → result.outcome ≡ Outcome.ReadFault }
+    ensures write_fault { O.faults out.old < O.faults out.new → result.outcome ≡ Outcome.WriteFault }
 {
     match job {
         Job::Run {

@@ -3,8 +3,8 @@ ghost use Rattle.std.specs.Prelude.{◌≡◌, ◌<◌, ◌≤◌, IfOk, IfErr, 
 ghost use Rattle.cdl_source.specs.Causes.{Rose};
 ghost use Rattle.cdl_table.specs.TableRow.{row_at};
 ghost use Rattle.cdl_table.specs.Values.{HaveValues};
-ghost use Rattle.cdl_command.specs.Ticks as spec;
-ghost use Rattle.cdl_command.specs.Ticks.{WroteTick, CutsTick, WroteRows, CutsRows, RunsRows};
+ghost use Rattle.cdl_command.specs.inner.Ticks as spec;
+ghost use Rattle.cdl_command.specs.inner.Ticks.{FaultIsAnswered, WroteTick, CutsTick, WroteRows, CutsRows, RunsRows};
 ghost use Rattle.cdl_command.specs.Runs.{path_of};
 
 use crate::outcome::Outcome;
@@ -57,7 +57,7 @@ fn faulted(alloc: Global, time: i64, name: &Text) -> TickStop
 
 impl From<TraceError> for TickStop {
     ghost use Rattle.std.specs.Prelude.{◌≡◌};
-    ghost use Rattle.cdl_command.specs.Ticks.{stop_of};
+    ghost use Rattle.cdl_command.specs.inner.Ticks.{stop_of};
 
     ghost from_gives = { λ t e. e ≡ stop_of t };
 
@@ -87,6 +87,8 @@ fn write_tick<O: Sink, L: Ledger>(
     ensures ok { OnOk result (WroteTick runner.old.block (row_at table.now number) (O.written out.old) (O.written out.new)) }
     ensures err { IfErr result (CutsTick runner.old.block (row_at table.now number) (O.written out.old) (O.written out.new) (Rose (O.faults out.old) (O.faults out.new))) }
     ensures later { O.faults out.old ≤ O.faults out.new }
+    ensures kept_faults { OnOk result (O.faults out.new ≡ O.faults out.old) }
+    ensures answered { IfErr result (FaultIsAnswered (O.faults out.old) (O.faults out.new)) }
 {
     let time = table.time(number);
     match runner.tick(time, table.row(number), steps) {
@@ -119,6 +121,8 @@ fn write_rows<O: Sink, L: Ledger>(
     ensures ok { OnOk result (WroteRows runner.old.block table.now (O.written out.old) (O.written out.new)) }
     ensures err { IfErr result (CutsRows runner.old.block table.now (O.written out.old) (O.written out.new) (Rose (O.faults out.old) (O.faults out.new))) }
     ensures later { O.faults out.old ≤ O.faults out.new }
+    ensures kept { OnOk result (O.faults out.new ≡ O.faults out.old) }
+    ensures answered { IfErr result (FaultIsAnswered (O.faults out.old) (O.faults out.new)) }
 {
     let mut steps = Steps::<L>::new(blank);
     for number in 0..table.rows() {
@@ -138,6 +142,8 @@ fn write_all<O: Sink>(
     ensures ok { OnOk result (spec.WroteTrace flat.entry table.now (O.written out.old) (O.written out.new)) }
     ensures err { IfErr result (spec.CutsTrace flat.entry table.now (O.written out.old) (O.written out.new) (Rose (O.faults out.old) (O.faults out.new))) }
     ensures later { O.faults out.old ≤ O.faults out.new }
+    ensures kept { OnOk result (O.faults out.new ≡ O.faults out.old) }
+    ensures answered { IfErr result (FaultIsAnswered (O.faults out.old) (O.faults out.new)) }
 {
     let outputs = flat.copy_outputs(alloc)?;
     let mut writer = TraceWriter::new(alloc, outputs)?;
@@ -156,6 +162,7 @@ pub(crate) fn write_trace<O: Sink>(
     requires values { HaveValues flat.declared.inputs table.now }
     ensures runs { RunsRows flat.entry table.now (O.written out.old) (O.written out.new) (Rose (O.faults out.old) (O.faults out.new)) result }
     ensures later { O.faults out.old ≤ O.faults out.new }
+    ensures answered { O.faults out.old < O.faults out.new → result ≡ Outcome.WriteFault }
 {
     match write_all(alloc, flat, table, out) {
         Ok(()) => Outcome::Done,

@@ -1,6 +1,7 @@
 -- The rules of a flat block.
-use Rattle.std.specs.Prelude.{◌≡◌, ◌≤◌, ◌<◌, ℕ, true, List, [], length, Option, Some, None}
+use Rattle.std.specs.Prelude.{◌≡◌, ◌≤◌, ◌<◌, ℕ, true, List, [], length, Option, Some, None, ◌-◌}
 use Rattle.std.specs.Option.{IsSome}
+use Rattle.cdl_source.specs.declared.limits.TheConstants.{MOST_INSTANCES}
 use Rattle.cdl_kinds.specs.declared.value.ValueType.{ValueType}
 use Rattle.cdl_tree.specs.declared.class.Item.{Item}
 use Rattle.cdl_tree.specs.declared.class.Connect.{Connect}
@@ -45,7 +46,7 @@ pub record IsFlat (items : List Item) (parts : List (Option Part)) (connects : L
   pub distinct : Differ name_of items
   -- the components have no parameter and no memory, and there are not too many of them
   pub simple : Each (λ c. is_plain_kind c.kind ≡ true) (block_of items parts connects).declared.components
-  pub few : length (block_of items parts connects).declared.components ≤ 19999
+  pub few : length (block_of items parts connects).declared.components ≤ MOST_INSTANCES - 1
   -- the references have no subscripts and at most two parts
   pub left : Each (λ (c : Connect). IsStraight c.left) connects
   pub right : Each (λ (c : Connect). IsStraight c.right) connects

@@ -1,5 +1,6 @@
 -- A block with the source of each of its sinks.
-use Rattle.std.specs.Prelude.{◌≡◌, ◌<◌, ◌≤◌, ℕ, ◌+◌, ◌*◌, ◌^◌, true, List, length, Option, Some}
+use Rattle.std.specs.Prelude.{◌≡◌, ◌<◌, ◌≤◌, ℕ, ◌+◌, ◌*◌, ◌^◌, true, List, length, Option, Some, ◌-◌}
+use Rattle.cdl_source.specs.declared.limits.TheConstants.{MOST_INSTANCES}
 use Rattle.cdl_table.specs.declared.column.Column.{Column}
 use Rattle.cdl_tree.specs.declared.class.Connect.{Connect}
 use Rattle.cdl_tree.specs.declared.class.Item.{Item}
@@ -38,7 +39,7 @@ pub record HasEdge (d : Declarations) (w : Wire) (e : Edge) : Type 0 where
 pub record IsNet (b : Block) (joins : List (Option Source)) : Type 0 where
   pub named : IsNamed b.declared
   pub plain : Each (λ c. is_plain_kind c.kind ≡ true) b.declared.components
-  pub few : length b.declared.components ≤ 19999
+  pub few : length b.declared.components ≤ MOST_INSTANCES - 1
   -- each wire is an edge that is joined
   pub wires : (k : ℕ) (w : Wire) → At b.wires k w → (e : Edge) × HasEdge b.declared w e × At joins e.place (Some e.source)
   -- each join is the edge of a wire
@@ -50,7 +51,7 @@ pub record IsNet (b : Block) (joins : List (Option Source)) : Type 0 where
 -- What is found for the items, the parts and the statements of a block.
 pub record IsFound (items : List Item) (parts : List (Option Part)) (connects : List Connect) (d : Declarations) (joins : List (Option Source)) : Type 0 where
   pub declared : declare_all nothing_declared items parts ≡ Some d
-  pub few : length d.components ≤ 19999
+  pub few : length d.components ≤ MOST_INSTANCES - 1
   pub joined : join_all d (no_joins d) connects ≡ Some joins
   pub full : is_full d joins ≡ true
 

@@ -42,18 +42,10 @@ impl Model for Declared {
     ghost invariant = { λ d. Each (λ c. is_plain_kind c.kind ≡ true) d.components };
 }
 
-fn copy(alloc: Global, name: &[u8]) -> Result<Text, OutOfMemory>
-    ensures { IfOk result (λ t. t ≡ name.now) }
-{
-    let mut text = Text::new(alloc);
-    text.push(name)?;
-    Ok(text)
-}
-
 fn column(alloc: Global, name: &[u8], kind: ValueType) -> Result<Column, OutOfMemory>
     ensures { IfOk result (λ c. c ≡ record { name = name.now; kind = kind }) }
 {
-    let name = copy(alloc, name)?;
+    let name = Text::from_bytes(alloc, name)?;
     Ok(Column { name, kind })
 }
 
@@ -165,7 +157,7 @@ impl Declared {
         } = self;
         let number = components.items().len();
         let places = add_name(alloc, places, name, Place::Component(number))?;
-        let name = copy(alloc, name)?;
+        let name = Text::from_bytes(alloc, name)?;
         components.push(Component { name, kind })?;
         Ok(Declared {
             alloc,

@@ -9,14 +9,14 @@ ghost use Rattle.cdl_flat.specs.declared.part.Component.{Component};
 use crate::declared::{Declared, copy_columns, declare_all};
 use crate::joins::{is_full, join_all};
 use crate::part::{Part, Source};
-use cdl_source::{List, OutOfMemory, Text};
+use cdl_source::{List, MOST_INSTANCES, OutOfMemory, Text};
 use cdl_table::Column;
 use cdl_tree::{Connect, Item};
 use std::alloc::Global;
 use std::marker::Model;
 
-/// The most components of a flat block.
-const MOST_COMPONENTS: usize = 19_999;
+// The most components of a flat block: the other instances of its model.
+const MOST_COMPONENTS: usize = MOST_INSTANCES as usize - 1;
 
 // What a block declares, the source of each of its sinks, and its statements, lent.
 #[derive(Drop)]

@@ -1,5 +1,5 @@
 // The source that each sink of a block is joined to.
-ghost use Rattle.std.specs.Prelude.{◌≡◌, ◌<◌, ◌≤◌, ◌+◌, ◌*◌, ◌^◌, true, Some, None, length, slice_get, IfOk, if◌then◌else◌};
+ghost use Rattle.std.specs.Prelude.{◌≡◌, ◌<◌, ◌≤◌, ◌+◌, ◌-◌, ◌*◌, ◌^◌, true, Some, None, length, slice_get, IfOk, if◌then◌else◌};
 ghost use Rattle.std.specs.Option.{option_map};
 ghost use Rattle.cdl_flat.specs.Joining as spec;
 ghost use Rattle.cdl_flat.specs.Lists.{Each};
@@ -10,7 +10,7 @@ use crate::ends::straight_end;
 use crate::part::{Component, Edge, End, Source};
 use crate::plain_kind::input_count;
 use cdl_kinds::ValueType;
-use cdl_source::OutOfMemory;
+use cdl_source::{MOST_INSTANCES, OutOfMemory};
 use cdl_tree::Connect;
 use std::alloc::Global;
 
@@ -159,7 +159,7 @@ pub(crate) fn join_all(
     declared: &Declared,
     connects: &[Connect],
 ) -> Result<Option<Vec<Option<Source>>>, OutOfMemory>
-    requires { length declared.now.components ≤ 19999 }
+    requires { length declared.now.components ≤ MOST_INSTANCES - 1 }
     ensures joins { IfOk result (λ joins. option_map (λ v. v.items) joins ≡ spec.join_all declared.now (spec.no_joins declared.now) connects.now) }
     ensures room { IfOk result (λ _. length declared.now.outputs + 3 * length declared.now.components < 2 ^ 64) }
 {

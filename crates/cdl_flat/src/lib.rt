@@ -15,6 +15,3 @@ pub use flat::Flat;
 pub use laws::one_solution;
 pub use part::{Component, Part};
 pub use runner::{RangeFault, Runner};
-
-#[cfg(test)]
-mod tests;

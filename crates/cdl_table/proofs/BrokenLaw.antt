@@ -16,7 +16,7 @@ use Rattle.cdl_table.specs.declared.table.TableFault.TheVariants.{OutOfMemory, R
 use Rattle.cdl_table.specs.Broken.{DifferFirst, Flaw, HasFirst, HasOtherHeader, IsFirstBad, IsFirstBroken, IsFlawed, IsOnly, IsWhole, NamesFirst, column_of, first_of, first_too_many, no_rise, no_time, no_value, rule_of, time_after, too_many, word_at, wrong_count}
 use Rattle.cdl_table.specs.Cells.{time_of, word_of}
 use Rattle.cdl_table.specs.IsTable.{AreRows, IsRow, before_all, header_of}
-use Rattle.cdl_table.specs.Scan.{Broken, Names, at_time, cells_of, header_fault, header_or, row_of, row_or, rows_from, table_of, with_time, word_or, words_from}
+use Rattle.cdl_table.specs.inner.Scan.{Broken, Names, at_time, cells_of, header_fault, header_or, row_of, row_or, rows_from, table_of, with_time, word_or, words_from}
 use Rattle.cdl_table.specs.TableRow.{TableRow}
 use Rattle.cdl_table.proofs.TableFacts.{rows-many, rows-more, rows-row, table-header, table-rows, time-early, time-rises}
 use Rattle.cdl_table.proofs.TableLaw.{header-right, header-sound, row-complete, row-sound}

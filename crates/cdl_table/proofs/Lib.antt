@@ -5,4 +5,4 @@ pub mod TableLaw
 pub mod BrokenLaw
 pub mod ValueLaw
 pub mod TraceFacts
-pub mod MixedLaw
+pub mod PlainTexts

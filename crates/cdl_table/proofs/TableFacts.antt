@@ -16,7 +16,7 @@ use Rattle.cdl_table.specs.declared.table.TableFault.TheVariants.{OutOfMemory, R
 use Rattle.cdl_table.specs.Broken.{first_too_many}
 use Rattle.cdl_table.specs.Cells.{time_of, word_of}
 use Rattle.cdl_table.specs.IsTable.{before_all, header_of, names_of}
-use Rattle.cdl_table.specs.Scan.{Broken, Names, NamesIn, at_time, cells_of, header_fault, row_of, row_or, rows_from, table_of, with_time, words_from}
+use Rattle.cdl_table.specs.inner.Scan.{Broken, Names, NamesIn, at_time, cells_of, header_fault, row_of, row_or, rows_from, table_of, with_time, words_from}
 use Rattle.cdl_table.specs.TableRow.{TableRow}
 
 -- the fields from a place on, by the field there

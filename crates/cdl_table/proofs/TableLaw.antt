@@ -15,7 +15,7 @@ use Rattle.cdl_table.specs.declared.table.TableFault.TheVariants.{OutOfMemory, R
 use Rattle.cdl_table.specs.Broken.{Refuses, first_too_many}
 use Rattle.cdl_table.specs.Cells.{time_of, word_of}
 use Rattle.cdl_table.specs.IsTable.{AreRows, AreWords, IsRow, IsTable, before_all, header_of, names_of}
-use Rattle.cdl_table.specs.Scan.{Names, at_time, cells_of, header_fault, header_or, row_of, row_or, rows_from, table_of, with_time, word_or, words_from}
+use Rattle.cdl_table.specs.inner.Scan.{Names, at_time, cells_of, header_fault, header_or, row_of, row_or, rows_from, table_of, with_time, word_or, words_from}
 use Rattle.cdl_table.specs.TableRow.{TableRow, row_with}
 use Rattle.cdl_table.proofs.TableFacts.{rows-row, table-rows, time-rises}
 

@@ -15,7 +15,8 @@ use Rattle.cdl_kinds.specs.History.{IsTime, IsValue}
 use Rattle.cdl_kinds.specs.declared.value.ValueType.{ValueType}
 use Rattle.cdl_kinds.specs.declared.value.ValueType.TheVariants.{Boolean, Integer, Real, Str, Enumeration}
 use Rattle.cdl_table.specs.declared.column.Column.{Column}
-use Rattle.cdl_table.specs.Cells.{boolean_word, digits_after, integer_word, latest_time, magnitude_of, negative, number_of, real_word, time_of, up_to, word_of}
+use Rattle.cdl_source.specs.declared.limits.TheConstants.{LATEST_TIME}
+use Rattle.cdl_table.specs.Cells.{boolean_word, digits_after, integer_word, magnitude_of, negative, number_of, real_word, time_of, up_to, word_of}
 use Rattle.cdl_table.specs.IsTable.{AreRows, AreWords, IsRow, IsTable, before_all}
 use Rattle.cdl_table.specs.TableRow.{TableRow}
 use Rattle.cdl_table.specs.Values.{AreValues, HaveValues}
@@ -50,7 +51,7 @@ mapped f greatest P (Some n) w few each e =
     rw (sym same) (each n (few n refl))
 
 time-value : (field : List ℕ) (t : ℤ) → time_of field ≡ Some t → IsTime t
-time-value field t e = mapped pos latest_time IsTime (number_of 14 latest_time field) t (number-most 14 latest_time field) (λ n h. (omega (arith, ints), omega (arith, ints, h))) e
+time-value field t e = mapped pos LATEST_TIME IsTime (number_of 14 LATEST_TIME field) t (number-most 14 LATEST_TIME field) (λ n h. (omega (arith, ints), omega (arith, ints, h))) e
 
 negative-small : (n : ℕ) → n ≤ 2147483647 → unsigned_abs (negative n) ≤ 2147483647
 negative-small zero h = omega arith

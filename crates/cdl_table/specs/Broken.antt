@@ -5,7 +5,9 @@ use Rattle.cdl_table.specs.declared.column.Column.{Column}
 use Rattle.cdl_table.specs.declared.table.TableFault.{TableFault}
 use Rattle.cdl_table.specs.declared.table.TableFault.TheVariants.{Rule, OutOfMemory}
 use Rattle.cdl_table.specs.Cells.{time_of, word_of}
-use Rattle.cdl_table.specs.IsTable.{IsTable, before_all, header_of, most_rows}
+use Rattle.cdl_source.specs.declared.limits.TheConstants.{MOST_TICKS}
+use Rattle.cdl_source.specs.declared.rules.TheConstants.{NOT_A_TIME, NOT_A_VALUE, TIME_DOES_NOT_RISE, TOO_MANY_TICKS, WRONG_FIELD_COUNT, WRONG_HEADER}
+use Rattle.cdl_table.specs.IsTable.{IsTable, before_all, header_of}
 use Rattle.cdl_table.specs.TableRow.{TableRow}
 
 -- the word of the cell of that number, from 0, as a value of its column's type
@@ -31,11 +33,11 @@ pub data Flaw : Type 0 where
   no_value : ℕ → Flaw
 
 abbrev pub rule_of : Flaw → ℕ
-rule_of too_many = 66
-rule_of wrong_count = 61
-rule_of no_time = 63
-rule_of no_rise = 64
-rule_of (no_value i) = 65
+rule_of too_many = TOO_MANY_TICKS
+rule_of wrong_count = WRONG_FIELD_COUNT
+rule_of no_time = NOT_A_TIME
+rule_of no_rise = TIME_DOES_NOT_RISE
+rule_of (no_value i) = NOT_A_VALUE
 
 -- the column of a flaw, from 1
 abbrev pub column_of : Flaw → ℕ
@@ -47,7 +49,7 @@ column_of (no_value i) = i + 2
 
 -- the number of the first record that is too many
 abbrev pub first_too_many : ℕ
-first_too_many = most_rows + 2
+first_too_many = MOST_TICKS + 2
 
 -- a record that is not too many, of one field and then a cell for each column
 pub record IsWhole (columns : List Column) (number : ℕ) (fields : List (List ℕ)) : Type 0 where
@@ -99,7 +101,7 @@ pub record DifferFirst (fields names : List (List ℕ)) (place : ℕ) : Type 0 w
 pub record HasOtherHeader (columns : List Column) (records : List (List (List ℕ))) (rule row column : ℕ) : Type 0 where
   pub place : ℕ
   pub differ : DifferFirst (first_of records) (header_of columns) place
-  pub rule_is : rule ≡ 62
+  pub rule_is : rule ≡ WRONG_HEADER
   pub row_is : row ≡ 1
   pub column_is : column ≡ place + 1
 

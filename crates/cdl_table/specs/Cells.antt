@@ -3,6 +3,7 @@ use Rattle.std.specs.Prelude.{◌+◌, ◌*◌, ◌||◌, ◌&&◌, ◌==◌, �
 use Rattle.std.specs.Result.{result_ok}
 use Rattle.std.specs.Char.{is_ascii_digit, digit_value}
 use Rattle.std.specs.Str.{bytes_eq}
+use Rattle.cdl_source.specs.declared.limits.TheConstants.{LARGEST_INTEGER, LATEST_TIME}
 use Rattle.cdl_decimal.specs.Split.{parse_of}
 use Rattle.cdl_kinds.specs.declared.value.ValueType.{ValueType}
 use Rattle.cdl_kinds.specs.declared.value.ValueType.TheVariants.{Boolean, Integer, Real, Str, Enumeration}
@@ -20,13 +21,9 @@ abbrev pub number_of : ℕ → ℕ → List ℕ → Option ℕ
 number_of most greatest field =
     if nat_le 1 (length field) && nat_le (length field) most then option_and_then (up_to greatest) (digits_after 0 field) else None
 
--- the latest time of a tick, in milliseconds
-abbrev pub latest_time : ℕ
-latest_time = 10000000000000
-
 -- the milliseconds of a field: 1 to 14 decimal digits, of a number up to the latest time
 abbrev pub time_of : List ℕ → Option ℤ
-time_of field = option_map pos (number_of 14 latest_time field)
+time_of field = option_map pos (number_of 14 LATEST_TIME field)
 
 -- the word of a Boolean: true is written `true` or `1`, and false `false` or `0`
 abbrev pub boolean_word : List ℕ → Option ℤ
@@ -35,9 +32,9 @@ boolean_word field =
     else if bytes_eq field (codes "false") || bytes_eq field (codes "0") then Some (pos 0)
     else None
 
--- the magnitude of an Integer: 1 to 10 decimal digits, of a number up to 2147483647
+-- the magnitude of an Integer: 1 to 10 decimal digits, of a number up to the largest
 abbrev pub magnitude_of : List ℕ → Option ℕ
-magnitude_of digits = number_of 10 2147483647 digits
+magnitude_of digits = number_of 10 LARGEST_INTEGER digits
 
 abbrev pub negative : ℕ → ℤ
 negative n = neg_ℤ (pos n)

@@ -1,5 +1,6 @@
 -- What a table of these columns is.
 use Rattle.std.specs.Prelude.{◌≡◌, ◌≤◌, ◌<ℤ◌, ℕ, ℤ, negsuc, List, [], ◌∷◌, codes, length, map, Some}
+use Rattle.cdl_source.specs.declared.limits.TheConstants.{MOST_TICKS}
 use Rattle.cdl_table.specs.declared.column.Column.{Column}
 use Rattle.cdl_table.specs.Cells.{time_of, word_of}
 use Rattle.cdl_table.specs.TableRow.{TableRow}
@@ -36,17 +37,9 @@ AreRows columns last (fields ∷ rest) (row ∷ rows) = IsRow columns fields row
 abbrev pub before_all : ℤ
 before_all = negsuc 0
 
--- the most rows of a table
-abbrev pub most_rows : ℕ
-most_rows = 1000000
-
 -- The records are a header and these rows.
 pub record IsTable (columns : List Column) (records : List (List (List ℕ))) (rows : List TableRow) : Type 0 where
   pub rest : List (List (List ℕ))
   pub records_are : records ≡ header_of columns ∷ rest
   pub rows_are : AreRows columns before_all rest rows
-  pub few : length rows ≤ most_rows
-
--- the most bytes of a table
-abbrev pub most_table_bytes : ℕ
-most_table_bytes = 33554432
+  pub few : length rows ≤ MOST_TICKS

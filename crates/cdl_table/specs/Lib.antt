@@ -3,7 +3,6 @@ pub mod Cells
 pub mod TableRow
 pub mod IsTable
 pub mod Broken
-pub mod Scan
 pub mod Values
 pub mod Trace
-pub mod Mixed
+pub mod inner

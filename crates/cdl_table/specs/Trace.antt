@@ -1,5 +1,8 @@
 -- The text of a trace: records by the rules of RFC 4180, each ended by a line feed.
-use Rattle.std.specs.Prelude.{ℕ, ℤ, Bool, true, false, List, [], ◌∷◌, codes}
+use Rattle.std.specs.Prelude.{ℕ, ℤ, Bool, true, false, List, [], ◌∷◌, codes, ◌≡◌, Result, Ok, Err}
+use Rattle.cdl_source.specs.Causes.{Rose}
+use Rattle.cdl_table.specs.declared.trace.TraceError.{TraceError}
+use Rattle.cdl_table.specs.declared.trace.TraceError.TheVariants.{WriteFault, OutOfMemory}
 use Rattle.std.specs.Fmt.{signed_decimal}
 use Rattle.csv.specs.Writing.{default_writer, row_text}
 use Rattle.cdl_decimal.specs.Canon.{canon}
@@ -34,3 +37,9 @@ header_text outputs = row_text default_writer (header_of outputs)
 -- the record of a tick: its time in milliseconds and the values of the outputs
 abbrev pub record_text : List Column → ℤ → List ℤ → List ℕ
 record_text outputs now words = row_text default_writer (signed_decimal now ∷ word_texts outputs words)
+
+-- No fault of the sink is passed over: its count rose where the sink failed, and else it stayed.
+abbrev pub FaultIsAnswered : {T : Type 0} → ℕ → ℕ → Result T TraceError → Type 0
+FaultIsAnswered before now (Ok done) = now ≡ before
+FaultIsAnswered before now (Err WriteFault) = Rose before now
+FaultIsAnswered before now (Err OutOfMemory) = now ≡ before

@@ -5,15 +5,11 @@ ghost use Rattle.cdl_table.specs.Cells.{boolean_word, integer_word, number_of, r
 
 use cdl_decimal::parse;
 use cdl_kinds::ValueType;
+use cdl_source::{LARGEST_INTEGER, LATEST_TIME};
 use csv::ByteRecord;
 
-// The latest time of a tick, in milliseconds, and the most digits of its text.
-const LATEST_TIME: u64 = 10_000_000_000_000;
-
+// The most digits of the text of a time, and of the magnitude of an Integer.
 const TIME_DIGITS: usize = 14;
-
-// The greatest magnitude of an Integer, and the most digits of its text.
-const GREATEST_INTEGER: u64 = 2_147_483_647;
 
 const INTEGER_DIGITS: usize = 10;
 
@@ -68,11 +64,11 @@ fn read_integer(text: &[u8]) -> Option<i64>
     ensures { result ≡ integer_word text.now }
 {
     match text.split_first() {
-        Some((b'-', digits)) => match read_number(digits, INTEGER_DIGITS, GREATEST_INTEGER) {
+        Some((b'-', digits)) => match read_number(digits, INTEGER_DIGITS, LARGEST_INTEGER as u64) {
             Some(magnitude) => Some(-(magnitude as i64)),
             None => None,
         },
-        _ => match read_number(text, INTEGER_DIGITS, GREATEST_INTEGER) {
+        _ => match read_number(text, INTEGER_DIGITS, LARGEST_INTEGER as u64) {
             Some(number) => Some(number as i64),
             None => None,
         },

@@ -2,7 +2,7 @@
 ghost use Rattle.std.specs.Prelude.{◌≡◌, ◌<◌, ◌-◌, ◌^◌, length};
 ghost use Rattle.csv.specs.Records.{fields_of};
 ghost use Rattle.cdl_table.specs.IsTable.{header_of};
-ghost use Rattle.cdl_table.specs.Scan.{header_fault};
+ghost use Rattle.cdl_table.specs.inner.Scan.{header_fault};
 
 use crate::Column;
 use crate::cells::has_field;

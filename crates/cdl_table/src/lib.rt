@@ -13,6 +13,3 @@ mod trace;
 pub use column::Column;
 pub use table::{Table, TableFault};
 pub use trace::{TraceError, TraceWriter};
-
-#[cfg(test)]
-mod tests;

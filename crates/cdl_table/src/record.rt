@@ -1,12 +1,13 @@
 // One record of a table.
 ghost use Rattle.std.specs.Prelude.{◌≡◌, ◌<◌, ◌-◌, ◌^◌, ◌++◌, List, [], ℤ, pos, length, drop, IfOk, OnOk, IfErr, Ok};
 ghost use Rattle.csv.specs.Records.{fields_of};
-ghost use Rattle.cdl_table.specs.Scan.{NamesIn, row_of, with_time, words_from};
+ghost use Rattle.cdl_table.specs.inner.Scan.{NamesIn, row_of, with_time, words_from};
 ghost use Rattle.cdl_table.specs.TableRow.{row_with};
 
 use crate::cells::{read_time, word_at};
 use crate::{Column, TableFault};
 use cdl_source::List;
+use cdl_source::rules::{NOT_A_TIME, NOT_A_VALUE, TIME_DOES_NOT_RISE, WRONG_FIELD_COUNT};
 use csv::ByteRecord;
 
 // Adds the words of the record's fields behind the first, one for each column.
@@ -23,7 +24,7 @@ fn read_words(
     for (i, input) in inputs.iter().enumerate() {
         let Some(word) = word_at(csv_record, i + 1, input.kind) else {
             return Err(TableFault::Rule {
-                rule: 65,
+                rule: NOT_A_VALUE,
                 row: number,
                 column: i as u32 + 2,
             });
@@ -47,28 +48,28 @@ pub(crate) fn read_row(
 {
     if csv_record.len() != inputs.len() + 1 {
         return Err(TableFault::Rule {
-            rule: 61,
+            rule: WRONG_FIELD_COUNT,
             row: number,
             column: 1,
         });
     }
     let Some(field) = csv_record.get(0) else {
         return Err(TableFault::Rule {
-            rule: 61,
+            rule: WRONG_FIELD_COUNT,
             row: number,
             column: 1,
         });
     };
     let Some(time) = read_time(field) else {
         return Err(TableFault::Rule {
-            rule: 63,
+            rule: NOT_A_TIME,
             row: number,
             column: 1,
         });
     };
     if time <= last {
         return Err(TableFault::Rule {
-            rule: 64,
+            rule: TIME_DOES_NOT_RISE,
             row: number,
             column: 1,
         });

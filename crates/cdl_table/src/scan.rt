@@ -1,23 +1,23 @@
 // The records of a table, one after another.
 ghost use Rattle.std.specs.Prelude.{◌≡◌, ◌≤◌, length, IfOk, IfErr, Ok};
-ghost use Rattle.cdl_table.specs.IsTable.{most_table_bytes};
 ghost use Rattle.cdl_table.specs.Rows.{table_records};
-ghost use Rattle.cdl_table.specs.Scan.{Names, table_of};
+ghost use Rattle.cdl_table.specs.inner.Scan.{Names, table_of};
 
 use crate::header::header_column;
 use crate::record::read_row;
 use crate::rows::{next_row, open_rows};
 use crate::{Column, Table, TableFault};
-use cdl_source::List;
+use cdl_source::rules::{TOO_MANY_TICKS, WRONG_HEADER};
+use cdl_source::{LONGEST_TABLE, List, MOST_TICKS};
 use csv::ByteRecord;
 use std::alloc::Global;
 
 // The number of the first record that is too many.
-const FIRST_TOO_MANY: u32 = 1_000_002;
+const FIRST_TOO_MANY: u32 = MOST_TICKS as u32 + 2;
 
 // The rows of the records of a text, or the first rule that they break.
 pub(crate) fn scan(alloc: Global, bytes: &[u8], inputs: &[Column]) -> Result<Table, TableFault>
-    requires { length bytes.now ≤ most_table_bytes }
+    requires { length bytes.now ≤ LONGEST_TABLE }
     ensures ok { IfOk result (λ table. table_of inputs.now (table_records bytes.now) ≡ Ok table) }
     ensures err { IfErr result (Names (table_of inputs.now (table_records bytes.now))) }
 {
@@ -25,14 +25,14 @@ pub(crate) fn scan(alloc: Global, bytes: &[u8], inputs: &[Column]) -> Result<Tab
     let mut record = ByteRecord::new(alloc);
     if !next_row(&mut records, &mut record)? {
         return Err(TableFault::Rule {
-            rule: 62,
+            rule: WRONG_HEADER,
             row: 1,
             column: 1,
         });
     }
     if let Some(column) = header_column(&record, inputs) {
         return Err(TableFault::Rule {
-            rule: 62,
+            rule: WRONG_HEADER,
             row: 1,
             column,
         });
@@ -45,7 +45,7 @@ pub(crate) fn scan(alloc: Global, bytes: &[u8], inputs: &[Column]) -> Result<Tab
     while next_row(&mut records, &mut record)? {
         if number == FIRST_TOO_MANY {
             return Err(TableFault::Rule {
-                rule: 66,
+                rule: TOO_MANY_TICKS,
                 row: number,
                 column: 1,
             });

@@ -1,14 +1,14 @@
 // Tables.
 ghost use Rattle.std.specs.Prelude.{◌≡◌, ◌≤◌, ◌<◌, List, length, IfOk, IfErr};
 ghost use Rattle.cdl_table.specs.Broken.{IsOnly, NamesFirst, Refuses};
-ghost use Rattle.cdl_table.specs.IsTable.{IsTable, most_table_bytes};
+ghost use Rattle.cdl_table.specs.IsTable.{IsTable};
 ghost use Rattle.cdl_table.specs.Rows.{table_records};
 ghost use Rattle.cdl_table.specs.TableRow.{TableRow, row_at};
 ghost use Rattle.cdl_table.specs.Values.{HaveValues};
 
 use crate::Column;
 use crate::scan::scan;
-use cdl_source::{List, OutOfMemory};
+use cdl_source::{LONGEST_TABLE, List, OutOfMemory};
 use std::alloc::Global;
 use std::marker::Model;
 
@@ -39,7 +39,7 @@ pub enum TableFault {
     /// 61: a record has another number of fields than the first; column 1.
     /// 62: the first record is not the header, or there is none; row 1, the first column that differs, is missing or is too many.
     /// 63: the first field is no time. 64: the time is not above the one before.
-    /// 65: a field is no value of its column's type. 66: the record is the 1,000,002nd; column 1.
+    /// 65: a field is no value of its column's type. 66: the record is one of more rows than `MOST_TICKS`; column 1.
     Rule { rule: u32, row: u32, column: u32 },
     OutOfMemory,
 }
@@ -58,16 +58,16 @@ impl From<OutOfMemory> for TableFault {
 impl Table {
     /// The rows of a table: records of comma-separated fields, by the rules of RFC 4180. The first record is `time` and the
     /// names of the columns, in order. Each further record is a row: its time in whole milliseconds, of 1 to 14 digits, up to
-    /// 10,000,000,000,000 and above the time before it, and then a value for each column. A Boolean is `true`, `false`, `1` or
-    /// `0`; an Integer an optional `-` and 1 to 10 digits, of a magnitude up to 2,147,483,647; a Real any text that
-    /// `cdl_decimal::parse` takes. There are at most 1,000,000 rows. A byte order mark at the start and blank lines are passed
+    /// `LATEST_TIME` and above the time before it, and then a value for each column. A Boolean is `true`, `false`, `1` or
+    /// `0`; an Integer an optional `-` and 1 to 10 digits, of a magnitude up to `LARGEST_INTEGER`; a Real any text that
+    /// `cdl_decimal::parse` takes. There are at most `MOST_TICKS` rows. A byte order mark at the start and blank lines are passed
     /// over, and blanks belong to their field.
     ///
-    /// There are at most 33,554,432 bytes. They are a table of at most one list of rows. `Rule` comes exactly where they are a
+    /// There are at most `LONGEST_TABLE` bytes. They are a table of at most one list of rows. `Rule` comes exactly where they are a
     /// table of none, memory aside, and names the first rule that is broken: by row, then column, and in a record 66 and 61
     /// before the cells. The memory taken is linear in the bytes.
     pub fn check(alloc: Global, bytes: &[u8], inputs: &List<Column>) -> Result<Table, TableFault>
-        requires { length bytes.now ≤ most_table_bytes }
+        requires { length bytes.now ≤ LONGEST_TABLE }
         ensures ok { IfOk result (λ table. IsTable inputs.now (table_records bytes.now) table) }
         ensures only { IfOk result (λ table. (rows : List TableRow) → IsTable inputs.now (table_records bytes.now) rows → rows ≡ table) }
         ensures values { IfOk result (HaveValues inputs.now) }

@@ -1,7 +1,7 @@
 // Traces.
 ghost use Rattle.std.specs.Prelude.{◌≡◌, ◌≤◌, ◌++◌, ◌∷◌, [], IfOk, IsErrOf, OnOk, OnErr};
-ghost use Rattle.csv.specs.Records.{fields_of, partial_of};
-ghost use Rattle.csv.specs.Writing.{default_writer, row_text};
+ghost use Rattle.csv.specs.Records.{fields_of};
+ghost use Rattle.csv.specs.Writing.{comma, default_writer, field_text, fields_text, row_text};
 ghost use Rattle.cdl_decimal.specs.Canon.{canon};
 ghost use Rattle.cdl_decimal.specs.Near.{InRange};
 ghost use Rattle.cdl_kinds.specs.History.{IsValue};
@@ -9,7 +9,7 @@ ghost use Rattle.cdl_source.specs.Causes.{Rose};
 ghost use Rattle.cdl_source.specs.Outside.{written_after};
 ghost use Rattle.cdl_source.specs.Whole.{WritesSome};
 ghost use Rattle.cdl_table.specs.IsTable.{header_of};
-ghost use Rattle.cdl_table.specs.Trace.{boolean_text, header_text, record_text, word_text, word_texts};
+ghost use Rattle.cdl_table.specs.Trace.{FaultIsAnswered, boolean_text, header_text, record_text, word_text, word_texts};
 ghost use Rattle.cdl_table.specs.Values.{AreValues};
 
 use crate::Column;
@@ -67,6 +67,8 @@ impl From<Failed> for TraceError {
 pub struct TraceWriter {
     alloc: Global,
     outputs: List<Column>,
+    // The bytes of the record of a tick, whose room is kept for the next.
+    buffer: Vec<u8>,
 }
 
 impl Model for TraceWriter {
@@ -83,17 +85,22 @@ impl TraceWriter {
     pub fn new(alloc: Global, outputs: List<Column>) -> Result<TraceWriter, OutOfMemory>
         ensures { IfOk result (λ writer. writer ≡ outputs) }
     {
-        Ok(TraceWriter { alloc, outputs })
+        Ok(TraceWriter {
+            alloc,
+            outputs,
+            buffer: Vec::new(alloc),
+        })
     }
 
-    /// Writes the first record, `time` and the names of the outputs, by one `write_whole`. `WriteFault` comes only where the
-    /// sink failed. At an error a prefix of the record was written.
+    /// Writes the first record, `time` and the names of the outputs, by one `write_whole`. `WriteFault` comes exactly where
+    /// the sink failed. At an error a prefix of the record was written.
     pub fn header<S: Sink>(&mut self, sink: &mut S) -> Result<(), TraceError>
         ensures ok { OnOk result (S.written sink.new ≡ written_after (S.written sink.old) (header_text self.old)) }
         ensures err { OnErr result (WritesSome (S.written sink.old) (S.written sink.new) (header_text self.old)) }
         ensures kept { self.new ≡ self.old }
         ensures later { S.faults sink.old ≤ S.faults sink.new }
         ensures fault { IsErrOf result TraceError.WriteFault → Rose (S.faults sink.old) (S.faults sink.new) }
+        ensures answered { FaultIsAnswered (S.faults sink.old) (S.faults sink.new) result }
     {
         let fields = header_record(self.alloc, self.outputs.items())?;
         let text = record_bytes(self.alloc, &fields)?;
@@ -103,7 +110,7 @@ impl TraceWriter {
 
     /// Writes the record of one tick by one `write_whole`: its time in milliseconds, and a word for each output, each a value of
     /// its type. A Boolean is written as `true` or `false`, an Integer in decimal, a Real in its canonical text. `WriteFault`
-    /// comes only where the sink failed. At an error a prefix of the record was written.
+    /// comes exactly where the sink failed. At an error a prefix of the record was written.
     pub fn row<S: Sink>(&mut self, now: i64, words: &[i64], sink: &mut S) -> Result<(), TraceError>
         requires { AreValues self.old words.now }
         ensures ok { OnOk result (S.written sink.new ≡ written_after (S.written sink.old) (record_text self.old now words.now)) }
@@ -111,13 +118,11 @@ impl TraceWriter {
         ensures kept { self.new ≡ self.old }
         ensures later { S.faults sink.old ≤ S.faults sink.new }
         ensures fault { IsErrOf result TraceError.WriteFault → Rose (S.faults sink.old) (S.faults sink.new) }
+        ensures answered { FaultIsAnswered (S.faults sink.old) (S.faults sink.new) result }
     {
-        let mut digits = Buffer::new();
-        let mut fields = ByteRecord::new(self.alloc);
-        fields.push_field(digits.format(now).as_bytes())?;
-        push_words(self.alloc, &mut fields, self.outputs.items(), words)?;
-        let text = record_bytes(self.alloc, &fields)?;
-        write_whole(sink, text.as_slice())?;
+        let outputs = self.outputs.items();
+        fill_record(self.alloc, &mut self.buffer, outputs, now, words)?;
+        write_whole(sink, self.buffer.as_slice())?;
         Ok(())
     }
 }
@@ -134,48 +139,65 @@ fn header_record(alloc: Global, columns: &[Column]) -> Result<ByteRecord, OutOfM
     Ok(fields)
 }
 
-// Adds a field for each column, with the text of its word.
+// Writes the record of a tick over what stood in the buffer. None of its fields calls for quotes.
+fn fill_record(
+    alloc: Global,
+    buffer: &mut Vec<u8>,
+    columns: &[Column],
+    now: i64,
+    words: &[i64],
+) -> Result<(), OutOfMemory>
+    requires { AreValues columns.now words.now }
+    ensures { OnOk result (buffer.new.items ≡ record_text columns.now now words.now) }
+{
+    let mut digits = Buffer::new();
+    buffer.clear();
+    buffer.extend_from_slice(digits.format(now).as_bytes())?;
+    push_words(alloc, buffer, columns, words)?;
+    buffer.extend_from_slice(b"\n")?;
+    Ok(())
+}
+
+// Adds a field behind the first for each column, with the text of its word.
 fn push_words(
     alloc: Global,
-    fields: &mut ByteRecord,
+    buffer: &mut Vec<u8>,
     columns: &[Column],
     words: &[i64],
 ) -> Result<(), OutOfMemory>
-    requires values { AreValues columns.now words.now }
-    requires whole { partial_of fields.old ≡ [] }
-    ensures { OnOk result (fields_of fields.new ≡ fields_of fields.old ++ word_texts columns.now words.now) }
+    requires { AreValues columns.now words.now }
+    ensures { OnOk result (buffer.new.items ≡ buffer.old.items ++ fields_text default_writer (word_texts columns.now words.now)) }
 {
     for (i, column) in columns.iter().enumerate() {
-        push_word(alloc, fields, column.kind, words[i])?;
+        push_word(alloc, buffer, column.kind, words[i])?;
     }
     Ok(())
 }
 
-// Adds a field with the text of the word.
+// Adds a comma and the text of the word.
 fn push_word(
     alloc: Global,
-    fields: &mut ByteRecord,
+    buffer: &mut Vec<u8>,
     kind: ValueType,
     word: i64,
 ) -> Result<(), OutOfMemory>
-    requires value { IsValue kind word }
-    requires whole { partial_of fields.old ≡ [] }
-    ensures fields { OnOk result (fields_of fields.new ≡ fields_of fields.old ++ word_text kind word ∷ []) }
-    ensures whole { OnOk result (partial_of fields.new ≡ []) }
+    requires { IsValue kind word }
+    ensures { OnOk result (buffer.new.items ≡ buffer.old.items ++ (comma ∷ field_text default_writer (word_text kind word))) }
 {
+    buffer.extend_from_slice(b",")?;
     match kind {
         ValueType::Boolean => {
-            fields.push_field(boolean_bytes(word == 1))?;
+            buffer.extend_from_slice(boolean_bytes(word == 1))?;
             Ok(())
         }
         ValueType::Integer => {
             let mut digits = Buffer::new();
-            fields.push_field(digits.format(word).as_bytes())?;
+            buffer.extend_from_slice(digits.format(word).as_bytes())?;
             Ok(())
         }
         ValueType::Real => {
             let digits = real_text(alloc, word)?;
-            fields.push_field(digits.bytes())?;
+            buffer.extend_from_slice(digits.bytes())?;
             Ok(())
         }
         _ => unreachable!(),

@@ -3,7 +3,8 @@ use borrow.Author.Tests.{tests}
 use Rattle.std.proofs.lemmas.Iterator.Search.{all_from_yields_List}
 use Rattle.std.proofs.lemmas.Iterator.Splits.{YieldsList-from_slice_split}
 use Rattle.std.specs.Prelude.{◌==◌}
-use Rattle.cdl_command.specs.Job.{is_identifier, is_class_name}
+use Rattle.cdl_source.specs.Identifiers.{is_identifier}
+use Rattle.cdl_command.specs.Job.{is_class_name}
 use Rattle.cdl_command.proofs.job.is_class.Goals as goal
 
 pub returns : goal.returns

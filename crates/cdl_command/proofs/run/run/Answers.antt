@@ -2,7 +2,7 @@ use Rattle.std.proofs.Common.{◌∷◌, [], arith, map, string_bytes}
 use Rattle.std.proofs.lemmas.List.{length-map}
 use Rattle.cdl_command.proofs.ModelFacts.{as_many, front_due, last_due}
 use Rattle.cdl_command.proofs.RootFacts.{root_of_within}
-use Rattle.cdl_command.proofs.RunFacts.{runs_ticks, stopped_at_block, stopped_at_classes, stopped_at_table, stopped_in_texts}
+use Rattle.cdl_command.proofs.RunFacts.{fault_behind, fault_told, runs_ticks, stopped_at_block, stopped_at_classes, stopped_at_table, stopped_in_texts}
 use Rattle.cdl_command.proofs.run.run.Goals as goal
 
 pub read_models-requires-clause-due : goal.read_models-requires-clause-due
@@ -50,3 +50,14 @@ returns-clause-works g c =
     c.in-Ok-flat_of.flat c.in-Ok-read_table.rows _ _ c.write_trace.result c.in-Ok.ensures.ok c.in-Ok-root_of.ensures.ok c.in-Ok-flat_of.ensures.ok
     (omega (arith, c.in-Ok.ensures.begun, length-map c.args.models.now string_bytes)) c.in-Ok-read_table.ensures.begun c.in-Ok.ensures.contents
     (rw c.inputs.ensures at c.in-Ok-read_table.ensures.ok) c.write_trace.ensures.runs)
+
+pub returns-in-Err-clause-read_fault : goal.returns-in-Err-clause-read_fault
+returns-in-Err-clause-read_fault g c = λ rose. rw c.stopped.ensures (fault_told _ _ c.in-Err.stop c.in-Err.ensures.answered rose)
+
+pub returns-in-Err-read_table-clause-read_fault : goal.returns-in-Err-read_table-clause-read_fault
+returns-in-Err-read_table-clause-read_fault g c =
+    λ rose. rw c.stopped-in-Err-read_table.ensures
+    (fault_told _ _ c.in-Err-read_table.stop (fault_behind _ _ _ c.in-Err-read_table.stop c.in-Ok.ensures.kept c.in-Err-read_table.ensures.answered) rose)
+
+pub returns-clause-write_fault : goal.returns-clause-write_fault
+returns-clause-write_fault g c = λ rose. rw c.plain_end.ensures (c.write_trace.ensures.answered rose)

@@ -1,6 +1,7 @@
 use Rattle.std.proofs.Common.{◌∙◌, arith, map, string_bytes}
 use Rattle.std.proofs.lemmas.Result.{err_from_is_err_and}
 use Rattle.cdl_command.proofs.ModelFacts.{named_at, next_due, read_more, stopped_at, no_memory_at, due_more}
+use Rattle.cdl_command.proofs.RunFacts.{fault_behind}
 use Rattle.cdl_command.proofs.texts.read_models.Goals as goal
 
 pub read_model-requires-clause-next : goal.read_model-requires-clause-next
@@ -16,7 +17,7 @@ returns-in_err-text-clause-err g c =
     rw (p.1, p.2)
     (stopped_at (g.F.Files.contents c.args.files.now) (g.F.Files.contents c.loop-i.files) (map string_bytes c.args.names.now) c.loop-i.models.texts c.loop-i.models.trees c.loop-i.i c.as_str.result.now _ _ _ _ _
     c.loop-i.invariant.hold c.loop-i.invariant.have c.loop-i.invariant.many named c.loop-i.invariant.contents
-    (omega (arith, c.loop-i.invariant.begun, c.in_err-text.ensures.begun)) (λ rose. omega (arith, c.loop-i.invariant.later, rose)) c.in_err-text.ensures.err)
+    (omega (arith, c.loop-i.invariant.begun, c.in_err-text.ensures.begun)) (λ rose. omega (arith, c.loop-i.invariant.kept, rose)) c.in_err-text.ensures.err)
 
 pub returns-in_err-push-clause-err : goal.returns-in_err-push-clause-err
 returns-in_err-push-clause-err g c =
@@ -47,5 +48,20 @@ loop-i-preserved g c =
       begun = omega (arith, c.loop-i.invariant.begun, c.in_ok-text.ensures.begun);
       due = due_more c.loop-i.i (g.F.Files.due c.args.files.now) (g.F.Files.due c.loop-i.files) _ c.loop-i.invariant.due c.in_ok-text.ensures.due;
       contents = c.in_ok-text.ensures.contents ∙ c.loop-i.invariant.contents;
-      later = omega (arith, c.loop-i.invariant.later, c.in_ok-text.ensures.later);
+      kept = c.in_ok-text.ensures.kept ∙ c.loop-i.invariant.kept;
     }
+
+pub returns-in_err-text-clause-answered : goal.returns-in_err-text-clause-answered
+returns-in_err-text-clause-answered g c =
+    let p = err_from_is_err_and c.from_residual.result c.from_residual.ensures.1 in
+    rw (p.1, p.2) (fault_behind _ _ _ _ c.loop-i.invariant.kept c.in_err-text.ensures.answered)
+
+pub returns-in_err-push-clause-answered : goal.returns-in_err-push-clause-answered
+returns-in_err-push-clause-answered g c =
+    let p = err_from_is_err_and c.from_residual-in_err-push.result c.from_residual-in_err-push.ensures.1 in
+    rw (p.1, p.2) (c.in_ok-text.ensures.kept ∙ c.loop-i.invariant.kept)
+
+pub returns-in_err-push-2-clause-answered : goal.returns-in_err-push-2-clause-answered
+returns-in_err-push-2-clause-answered g c =
+    let p = err_from_is_err_and c.from_residual-in_err-push-2.result c.from_residual-in_err-push-2.ensures.1 in
+    rw (p.1, p.2) (c.in_ok-text.ensures.kept ∙ c.loop-i.invariant.kept)

@@ -1,5 +1,5 @@
-use Rattle.std.proofs.Common.{◌≡◌, ◌≤◌, ◌+◌, length, map, string_bytes}
-use Rattle.cdl_command.specs.Reads.{due_behind}
+use Rattle.std.proofs.Common.{◌≡◌, ◌+◌, length, map, string_bytes}
+use Rattle.cdl_command.specs.inner.Reads.{due_behind}
 use Rattle.cdl_command.specs.Texts.{FirstHold, HaveTrees}
 use Rattle.cdl_command.proofs.texts.read_models.Given as goal
 
@@ -12,5 +12,5 @@ invariant-loop-i g l =
       begun : g.F.Files.begun l.files ≡ g.F.Files.begun l.fn.files + l.i;
       due : g.F.Files.due l.files ≡ due_behind l.i (g.F.Files.due l.fn.files);
       contents : g.F.Files.contents l.files ≡ g.F.Files.contents l.fn.files;
-      later : g.F.Files.faults l.fn.files ≤ g.F.Files.faults l.files;
+      kept : g.F.Files.faults l.files ≡ g.F.Files.faults l.fn.files;
     }

@@ -1,5 +1,5 @@
-use Rattle.std.proofs.Common.{◌≡◌, ◌≤◌, take}
-use Rattle.cdl_command.specs.Ticks.{WroteRows}
+use Rattle.std.proofs.Common.{◌≡◌, take}
+use Rattle.cdl_command.specs.inner.Ticks.{WroteRows}
 use Rattle.cdl_command.proofs.trace.write_rows.Given as goal
 
 abbrev pub invariant-loop-number : goal.invariant-loop-number
@@ -8,5 +8,5 @@ invariant-loop-number g l =
       wrote : WroteRows l.fn.runner.block (take l.number l.table) (g.O.Sink.written l.fn.out) (g.O.Sink.written l.out);
       block : l.runner.block ≡ l.fn.runner.block;
       writer : l.writer ≡ l.fn.runner.block.declared.outputs;
-      later : g.O.Sink.faults l.fn.out ≤ g.O.Sink.faults l.out;
+      kept : g.O.Sink.faults l.out ≡ g.O.Sink.faults l.fn.out;
     }

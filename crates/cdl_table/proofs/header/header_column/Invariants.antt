@@ -1,7 +1,7 @@
 use Rattle.std.proofs.Common.{◌≡◌, ◌<◌, ◌+◌, drop, length}
 use Rattle.csv.specs.Records.{fields_of}
 use Rattle.cdl_table.specs.IsTable.{header_of, names_of}
-use Rattle.cdl_table.specs.Scan.{header_fault}
+use Rattle.cdl_table.specs.inner.Scan.{header_fault}
 use Rattle.cdl_table.proofs.header.header_column.Given as goal
 
 abbrev pub invariant-loop-i : goal.invariant-loop-i

@@ -3,7 +3,7 @@ use mir.Val.{SFits}
 use Rattle.std.proofs.lemmas.Int.{ints}
 use Rattle.std.specs.Prelude.{pos}
 use Rattle.csv.specs.Records.{fields_of}
-use Rattle.cdl_table.specs.Scan.{with_time}
+use Rattle.cdl_table.specs.inner.Scan.{with_time}
 use Rattle.cdl_table.specs.TableRow.{row_with}
 use Rattle.cdl_table.proofs.TableFacts.{row-early, row-no_time, row-none, row-rises, words-names}
 use Rattle.cdl_table.proofs.record.read_row.Goals as goal

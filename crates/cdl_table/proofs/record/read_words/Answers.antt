@@ -3,7 +3,7 @@ use mir.Val.{SFits}
 use Rattle.std.specs.Prelude.{pos}
 use Rattle.std.proofs.lemmas.Int.{ints}
 use Rattle.csv.specs.Records.{fields_of}
-use Rattle.cdl_table.specs.Scan.{with_time}
+use Rattle.cdl_table.specs.inner.Scan.{with_time}
 use Rattle.cdl_table.proofs.TableFacts.{words-more, words-stop}
 use Rattle.cdl_table.proofs.record.read_words.Goals as goal
 

@@ -1,6 +1,6 @@
 use Rattle.std.proofs.Common.{◌≡◌, ◌<◌, ◌+◌, ◌++◌, ℤ, List, [], drop, length}
 use Rattle.csv.specs.Records.{fields_of}
-use Rattle.cdl_table.specs.Scan.{words_from}
+use Rattle.cdl_table.specs.inner.Scan.{words_from}
 use Rattle.cdl_table.proofs.record.read_words.Given as goal
 
 abbrev pub invariant-loop-i : goal.invariant-loop-i

@@ -3,7 +3,7 @@ use Rattle.std.proofs.lemmas.Result.{err_from_is_err_and}
 use mir.Val.{SFits}
 use Rattle.std.proofs.lemmas.Int.{ints}
 use Rattle.csv.specs.Records.{fields_of}
-use Rattle.cdl_table.specs.Scan.{rows_from, table_of}
+use Rattle.cdl_table.specs.inner.Scan.{rows_from, table_of}
 use Rattle.cdl_table.specs.TableRow.{TableRow, row_with, rows_of}
 use Rattle.cdl_table.proofs.FlatFacts.{flat-push, rows-push}
 use Rattle.cdl_table.proofs.RowFacts.{first_record-few}

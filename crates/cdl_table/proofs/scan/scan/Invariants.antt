@@ -1,7 +1,7 @@
 use Rattle.std.proofs.Common.{◌≡◌, ◌≤◌, ◌<◌, ◌*◌, ◌-◌, List, ℕ, length}
 use Rattle.cdl_table.specs.Broken.{first_too_many}
 use Rattle.cdl_table.specs.Rows.{Gives, table_records}
-use Rattle.cdl_table.specs.Scan.{rows_from, table_of}
+use Rattle.cdl_table.specs.inner.Scan.{rows_from, table_of}
 use Rattle.cdl_table.specs.TableRow.{rows_of}
 use Rattle.cdl_table.proofs.scan.scan.Given as goal
 

@@ -1,8 +1,10 @@
-use Rattle.std.proofs.Common.{◌≡◌, arith, get_or, pos, rules, to_z, of_z, w64, ◌∙◌, ◌+◌, ◌++◌, ◌∷◌, [], List, ℕ, ap, append_assoc, drop, sym}
+use Rattle.std.proofs.Common.{◌≡◌, arith, get_or, pos, rules, to_z, of_z, w64, ◌∙◌, ◌++◌, ◌∷◌, ap}
 use mir.Val.{SFits}
+use Rattle.std.proofs.lemmas.Grind.{common_steps}
 use Rattle.std.proofs.lemmas.Int.{ints}
-use Rattle.csv.specs.Records.{fields_of}
-use Rattle.cdl_table.specs.Trace.{word_text, word_texts}
+use Rattle.csv.specs.Writing.{comma, default_writer, field_text}
+use Rattle.cdl_table.specs.Trace.{word_text}
+use Rattle.cdl_table.proofs.PlainTexts.{field_put, fields_text-none}
 use Rattle.cdl_table.proofs.TraceFacts.{here}
 use Rattle.cdl_table.proofs.trace.push_words.Goals as goal
 
@@ -14,10 +16,9 @@ loop-i-preserved c =
     let same : to_z w64 (of_z w64 (get_or c.args.words.now c.loop-i.i (pos 0))) ≡ get_or c.args.words.now c.loop-i.i (pos 0) = omega (arith, ints) in
     record {
       left = h.left;
-      fields =
-          ap (λ (x : List (List ℕ)). x ++ word_texts (drop (c.loop-i.i + 1) c.args.columns.now) (drop (c.loop-i.i + 1) c.args.words.now)) (c.in_ok-push_word.ensures.fields ∙ ap (λ w. fields_of c.loop-i.fields ++ word_text c.index-columns-i.result.kind w ∷ []) same)
-          ∙ append_assoc (fields_of c.loop-i.fields) (word_text c.index-columns-i.result.kind (get_or c.args.words.now c.loop-i.i (pos 0)) ∷ []) (word_texts (drop (c.loop-i.i + 1) c.args.columns.now) (drop (c.loop-i.i + 1) c.args.words.now))
-          ∙ ap (λ (x : List (List ℕ)). fields_of c.loop-i.fields ++ x) (sym h.texts)
-          ∙ inv.fields;
-      whole = c.in_ok-push_word.ensures.whole;
+      texts =
+          field_put _ _ _ (word_text c.index-columns-i.result.kind (get_or c.args.words.now c.loop-i.i (pos 0))) _ _ (c.in_ok-push_word.ensures ∙ ap (λ w. c.loop-i.buffer.items ++ comma ∷ field_text default_writer (word_text c.index-columns-i.result.kind w)) same) h.texts inv.texts;
     }
+
+pub returns : goal.returns
+returns c = grind (arith, common_steps, fields_text-none)

@@ -1,0 +1,22 @@
+block F
+  Buildings.Controls.OBC.CDL.Interfaces.BooleanInput u1;
+  Buildings.Controls.OBC.CDL.Interfaces.BooleanInput u2;
+  Buildings.Controls.OBC.CDL.Interfaces.RealInput x1;
+  Buildings.Controls.OBC.CDL.Interfaces.RealInput x2;
+  Buildings.Controls.OBC.CDL.Interfaces.BooleanOutput y;
+  Buildings.Controls.OBC.CDL.Interfaces.RealOutput q;
+  Buildings.Controls.OBC.CDL.Logical.Not n;
+  Buildings.Controls.OBC.CDL.Logical.And a;
+  Buildings.Controls.OBC.CDL.Logical.Or o;
+  Buildings.Controls.OBC.CDL.Reals.Divide d;
+equation
+  connect(u1, n.u);
+  connect(n.y, a.u1);
+  connect(u2, a.u2);
+  connect(u1, o.u1);
+  connect(a.y, o.u2);
+  connect(o.y, y);
+  connect(x1, d.u1);
+  connect(x2, d.u2);
+  connect(d.y, q);
+end F;

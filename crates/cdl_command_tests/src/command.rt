@@ -1,0 +1,345 @@
+// Jobs over files and sinks in memory.
+use crate::marks::bytes_of;
+use cdl_command::command;
+use cdl_source::{MemFiles, MemSink, Text};
+use itoa::Buffer;
+use std::alloc::Global;
+use std::test::Fail;
+
+// The words of a job, and what its files m.mo, s.mo and t.csv hold.
+#[derive(Clone, Copy)]
+struct Given<'a> {
+    words: &'a str,
+    model: &'a [u8],
+    other: &'a [u8],
+    table: &'a [u8],
+}
+
+// The calls of the files and the writes of the sinks that fail, counted from 1; 0: none.
+#[derive(Clone, Copy)]
+struct Failing {
+    files: u64,
+    out: u64,
+    err: u64,
+}
+
+const NONE: Failing = Failing {
+    files: 0,
+    out: 0,
+    err: 0,
+};
+
+// What `&` stands for in a case.
+const LIBRARY: &[u8] = b"Buildings.Controls.OBC.CDL.";
+
+const RUN: &str = "run M t.csv m.mo";
+
+const GATES: &str =
+    "block M|  &Interfaces.BooleanInput u1;|  &Interfaces.BooleanInput u2;|  &Interfaces.BooleanOutput y;|  &Logical.Not n;|  &Logical.And a;|  &Logical.Or o;|equation|  connect(u1, n.u);|  connect(n.y, a.u1);|  connect(u2, a.u2);|  connect(u1, o.u1);|  connect(a.y, o.u2);|  connect(o.y, y);|end M;|";
+
+// The words, the models m.mo and s.mo, the table t.csv, and then what the job ends with: the code, and the texts on the two
+// sinks. First what runs, and ends with a fault; then the rules of texts, those of classes, what is not built, and what
+// files are begun.
+const CASES: &str =
+    "run M t.csv m.mo s.mo~block M|  &Interfaces.BooleanInput u1;|  &Interfaces.BooleanInput u2;|  &Interfaces.BooleanOutput y;|  &Logical.Not n;|  &Logical.And a;|  &Logical.Or o;|equation|  connect(u1, n.u);|  connect(n.y, a.u1);|  connect(u2, a.u2);|  connect(u1, o.u1);|  connect(a.y, o.u2);|  connect(o.y, y);|end M;|~package Q end Q;~time,u1,u2|0,false,false|1000,false,true|2000,true,false|3000,true,true|>0~time,y|0,false|1000,true|2000,true|3000,true|~\n\
+    run M t.csv m.mo~block M end M;~~time|7|>0~time|7|~\n\
+    run P.M t.csv s.mo m.mo~within P; block M /* here */ annotation(version = \"1\"); end M;~within P; package K end K;~time|>0~time|~\n\
+    run M t.csv m.mo~block M &Interfaces.RealInput u1; &Interfaces.RealInput u2; &Interfaces.RealOutput y; &Reals.Divide d; equation connect(u1, d.u1); connect(u2, d.u2); connect(d.y, y); end M;~~time,u1,u2|0,1,3|1,2,3|2,1,0|>3~time,y|0,0.333333|1,0.666667|~range fault at 2 in #d|\n\
+    run M t.csv m.mo~block M &Interfaces.IntegerInput u1; &Interfaces.IntegerInput u2; &Interfaces.IntegerOutput y; &Integers.Multiply m; equation connect(u1, m.u1); connect(u2, m.u2); connect(m.y, y); end M;~~time,u1,u2|0,65536,32767|1,65536,32768|2,1,1|>3~time,y|0,2147418112|~range fault at 1 in #m|\n\
+    run M t.csv m.mo~block M &Interfaces.RealInput u1; &Interfaces.RealInput u2; &Interfaces.RealOutput y; &Interfaces.RealOutput z; &Reals.Divide e; &Reals.Divide d; &Reals.Divide f; equation connect(u1, f.u1); connect(u2, f.u2); connect(u1, d.u1); connect(u2, d.u2); connect(u1, e.u1); connect(u1, e.u2); connect(d.y, y); connect(f.y, z); end M;~~time,u1,u2|0,1,0|>3~time,y,z|~range fault at 0 in #d|\n\
+    run Buildings.Controls.OBC.X.M t.csv m.mo~within Buildings.Controls.OBC.X;|block M|  CDL.Interfaces.BooleanInput u;|  CDL.Interfaces.BooleanOutput y;|equation|  connect(u, y);|end M;|~~time,u|0,true|>0~time,y|0,true|~\n\
+    run M t.csv m.mo~block M ^ end M;~~time,u1,u2|>1~~m.mo:1:9: C2 not UTF-8|\n\
+    run M t.csv m.mo~block M| # end M;~~time,u1,u2|>1~~m.mo:2:2: C3 no token here|\n\
+    run M t.csv m.mo~block M parameter Integer k = 2147483648; end M;~~time,u1,u2|>1~~m.mo:1:31: C4 literal or identifier past its limits|\n\
+    run M t.csv m.mo~block M|end M~~time,u1,u2|>1~~m.mo:2:6: C7 syntax|\n\
+    run M t.csv m.mo~block M|end N;~~time,u1,u2|>1~~m.mo:2:5: C8 wrong name after end|\n\
+    run M t.csv m.mo none.mo~block M end N;~~time,u1,u2|>1~~m.mo:1:13: C8 wrong name after end|\n\
+    run M t.csv m.mo s.mo~block M Foo f; end M;~package Q end R;~time,u1,u2|>1~~s.mo:1:15: C8 wrong name after end|\n\
+    run M t.csv m.mo m.mo~block M end M;~~time,u1,u2|>1~~m.mo:1:7: C10 name declared twice|\n\
+    run M t.csv m.mo s.mo~block M Foo f; end M;~||block M end M;~time,u1,u2|>1~~s.mo:3:7: C10 name declared twice|\n\
+    run M t.csv m.mo s.mo~block M Foo f; end M;~block Real end Real;~time,u1,u2|>1~~s.mo:1:7: C11 name not free|\n\
+    run M t.csv m.mo s.mo~block M end M;~block N|  Foo f; end N;~time,u1,u2|>1~~s.mo:2:3: C12 name not found|\n\
+    run Buildings.Controls.OBC.X.M t.csv m.mo s.mo~within Buildings.Controls.OBC.X;|block M|  CDL.Interfaces.BooleanInput u; end M;~within Buildings.Controls.OBC.X;|package CDL|end CDL;~time,u1,u2|>1~~m.mo:3:3: C12 name not found|\n\
+    run N t.csv m.mo~block M|  &Reals.PID p; end M;~~time,u1,u2|>1~~m.mo:2:3: C13 not supported here|\n\
+    run M t.csv m.mo none.mo~block M Foo f; end M;~~time,u1,u2|>4~~read fault|\n\
+    run N none.csv m.mo~block M end M;~~time,u1,u2|>1~~#: C14 no such block|\n\
+    run Q none.csv m.mo s.mo~block M end M;~package Q end Q;~time,u1,u2|>1~~#: C14 no such block|\n\
+    run E none.csv m.mo s.mo~block M end M;~type E = enumeration(a, b);~time,u1,u2|>1~~#: C14 no such block|\n\
+    run M none.csv m.mo~block M &Logical.Pre p; end M;~~time,u1,u2|>1~~#: C9 not built yet|\n\
+    run M none.csv m.mo s.mo~block M N n; end M;~block N end N;~time,u1,u2|>1~~#: C9 not built yet|\n\
+    run M none.csv m.mo~block M parameter Real k = 1; end M;~~time,u1,u2|>1~~#: C9 not built yet|\n\
+    check M m.mo~block M end M;~~time,u1,u2|>1~~#: C9 not built yet|\n\
+    sample 2000~~~time,u1,u2|>1~~#: C9 not built yet|\n\
+    run M m.mo m.mo~block M end M;~~time,u1,u2|>1~~m.mo:1:1: C62 wrong header|\n\
+    run M none.csv m.mo~block M end M;~~time,u1,u2|>4~~read fault|\n\
+    run M t.csv none.mo~~~time,u1,u2|>4~~read fault|";
+
+// Words that are no job.
+const NO_JOBS: &str = "sample 007\n\
+    check end m.mo\n\
+    run M t.csv\n\
+    run M t.csv m m m m m m m m m m m m m m m m m m m m m m m m m m m m m m m m m m m m m m m m m m m m m m m m m m m m m m m m m m m m m m m m m";
+
+const USAGE: &[u8] =
+    b"2~~usage: cdl check CLASS MODEL.. | run CLASS TABLE MODEL.. | cxf CLASS MODEL.. | checkcxf DOC | runcxf TABLE DOC | sample N\n";
+
+// Tables of the inputs `u1` and `u2` of GATES, and what their runs end with: each rule is broken beside the nearest table that
+// keeps it, and then two rules at once, in one record and in two.
+const TABLES: &str = "time,u1,u2|>0~time,y|~\n\
+    @|\"time\",u1,u2%|%|\"0\",0,0%5,1,0||7,0,\"1>0~time,y|0,false|5,true|7,true|~\n\
+    time,u1,u2|0,true|>1~~t.csv:2:1: C61 wrong number of fields|\n\
+    time,u1,u2|0,true,1|>0~time,y|0,true|~\n\
+    time,u1,u2|0,true,1,1|>1~~t.csv:2:1: C61 wrong number of fields|\n\
+    >1~~t.csv:1:1: C62 wrong header|\n\
+    |%|>1~~t.csv:1:1: C62 wrong header|\n\
+    u1,u2|>1~~t.csv:1:1: C62 wrong header|\n\
+    time,u2,u1|>1~~t.csv:1:2: C62 wrong header|\n\
+    time,u1|>1~~t.csv:1:3: C62 wrong header|\n\
+    time,u1,u2,|>1~~t.csv:1:4: C62 wrong header|\n\
+    time,u1,u2|1.5,true,true|>1~~t.csv:2:1: C63 not a time|\n\
+    time,u1,u2|15,true,true|>0~time,y|15,true|~\n\
+    time,u1,u2|10000000000000,1,0|>0~time,y|10000000000000,true|~\n\
+    time,u1,u2|10000000000001,1,0|>1~~t.csv:2:1: C63 not a time|\n\
+    time,u1,u2|5,true,true|5,true,true|>1~~t.csv:3:1: C64 time doesn't rise|\n\
+    time,u1,u2||5,1,1||4,1,1|>1~~t.csv:3:1: C64 time doesn't rise|\n\
+    time,u1,u2|5,true,true|6,true,true|>0~time,y|5,true|6,true|~\n\
+    time,u1,u2|0,true,yes|>1~~t.csv:2:3: C65 not a value of its type|\n\
+    time,u1,u2|0,TRUE,1|>1~~t.csv:2:2: C65 not a value of its type|\n\
+    time,u1,u2|0,1,1 |>1~~t.csv:2:3: C65 not a value of its type|\n\
+    time,u1,u2|x,true|>1~~t.csv:2:1: C61 wrong number of fields|\n\
+    time,u1,u2|0,yes|>1~~t.csv:2:1: C61 wrong number of fields|\n\
+    time,u1,u2|x,yes,1|>1~~t.csv:2:1: C63 not a time|\n\
+    time,u1,u2|5,1,1|5,yes,1|>1~~t.csv:3:1: C64 time doesn't rise|\n\
+    time,u1,u2|0,yes,no|>1~~t.csv:2:2: C65 not a value of its type|\n\
+    time,u1|x,1,1|>1~~t.csv:1:3: C62 wrong header|\n\
+    time,u1,u2|0,1|x,1,1|>1~~t.csv:2:1: C61 wrong number of fields|\n\
+    time,u1,u2|x,1,1|0,1|>1~~t.csv:2:1: C63 not a time|\n\
+    time,u1,u2|5,1,yes|5,1,1|>1~~t.csv:2:3: C65 not a value of its type|\n\
+    time,u1,u2|5,1,1|5,1,1|6,1,yes|>1~~t.csv:3:1: C64 time doesn't rise|\n\
+    time,u1,u2|5,1,1|6,1,yes|6,1|>1~~t.csv:3:3: C65 not a value of its type|";
+
+// A job of two models, whose class lies in the package of the second.
+const TWO_MODELS: &str =
+    "run P.M t.csv m.mo s.mo~within P; block M &Interfaces.BooleanInput u1; &Interfaces.BooleanInput u2; &Interfaces.BooleanOutput y; &Logical.Or a; equation connect(u1, a.u1); connect(u2, a.u2); connect(a.y, y); end M;~within P; package K end K;~time,u1,u2|0,false,false|1000,false,true|2000,true,false|3000,true,true|";
+
+// The calls of the files, of the standard output and of the standard error that fail in that job, and what it ends with. Each
+// file is begun, read, and read to its end; each record is written in pieces of at most 7 bytes.
+const FAILING_CALLS: &str = "10 0 0>0~time,y|0,false|1000,true|2000,true|3000,true|~\n\
+    0 10 0>0~time,y|0,false|1000,true|2000,true|3000,true|~\n\
+    1 0 0>4~~read fault|\n\
+    2 0 0>4~~read fault|\n\
+    3 0 0>4~~read fault|\n\
+    4 0 0>4~~read fault|\n\
+    5 0 0>4~~read fault|\n\
+    6 0 0>4~~read fault|\n\
+    7 0 0>4~~read fault|\n\
+    8 0 0>4~~read fault|\n\
+    9 0 0>4~~read fault|\n\
+    1 0 1>5~~\n\
+    0 1 0>5~~write fault|\n\
+    0 2 0>5~time,y|~write fault|\n\
+    0 3 0>5~time,y|0,false~write fault|\n\
+    0 4 0>5~time,y|0,false|~write fault|\n\
+    0 5 0>5~time,y|0,false|1000,tr~write fault|\n\
+    0 6 0>5~time,y|0,false|1000,true|~write fault|\n\
+    0 7 0>5~time,y|0,false|1000,true|2000,tr~write fault|\n\
+    0 8 0>5~time,y|0,false|1000,true|2000,true|~write fault|\n\
+    0 9 0>5~time,y|0,false|1000,true|2000,true|3000,tr~write fault|";
+
+fn words_of(alloc: Global, text: &str) -> Result<Vec<String>, Fail> {
+    let mut words = Vec::new(alloc);
+    for word in text.split(' ') {
+        words.push(word.to_string(alloc)?)?;
+    }
+    Ok(words)
+}
+
+// What a job ends with while these calls fail: the code, and the texts on the two sinks.
+fn end_of(alloc: Global, given: &Given<'_>, failing: Failing) -> Result<Text, Fail> {
+    let words = words_of(alloc, given.words)?;
+    let mut files = MemFiles::new(alloc);
+    files.put("m.mo", given.model)?;
+    files.put("s.mo", given.other)?;
+    files.put("t.csv", given.table)?;
+    files.fail(failing.files)?;
+    let mut out = MemSink::new(alloc, 7, 4096)?;
+    out.fail(failing.out)?;
+    let mut err = MemSink::new(alloc, 4096, 4096)?;
+    err.fail(failing.err)?;
+    let outcome = command(alloc, &words, &mut files, &mut out, &mut err);
+    let mut code = Buffer::new();
+    let mut end = Text::new(alloc);
+    end.push(code.format(outcome.code()).as_bytes())?;
+    end.push(b"~")?;
+    end.push(out.bytes())?;
+    end.push(b"~")?;
+    end.push(err.bytes())?;
+    Ok(end)
+}
+
+// Whether the job of this case ends with what is marked.
+fn ends_with(alloc: Global, case: &str, want: &str, failing: Failing) -> Result<bool, Fail> {
+    let mut parts = case.split('~');
+    let words = parts.next().ok_or("no words")?;
+    let model = bytes_of(alloc, parts.next().ok_or("no model")?, LIBRARY)?;
+    let other = bytes_of(alloc, parts.next().ok_or("no other model")?, LIBRARY)?;
+    let table = bytes_of(alloc, parts.next().ok_or("no table")?, LIBRARY)?;
+    let given = Given {
+        words,
+        model: model.bytes(),
+        other: other.bytes(),
+        table: table.bytes(),
+    };
+    let end = end_of(alloc, &given, failing)?;
+    let want = bytes_of(alloc, want, LIBRARY)?;
+    Ok(end.bytes() == want.bytes())
+}
+
+// A model of 524,288 bytes: behind the block stand blanks.
+fn longest_model(alloc: Global) -> Result<Text, Fail> {
+    let blanks = [b' '; 4096];
+    let mut model = Text::new(alloc);
+    model.push(b"block M end M;\n")?;
+    model.push(&blanks[..4081])?;
+    for _ in 0..127 {
+        model.push(&blanks)?;
+    }
+    Ok(model)
+}
+
+// A table of 33,554,432 bytes without a row: behind the header stand blank lines.
+fn longest_table(alloc: Global) -> Result<Text, Fail> {
+    let lines = [b'\n'; 4096];
+    let mut table = Text::new(alloc);
+    table.push(b"time,u1,u2\n")?;
+    table.push(&lines[..4085])?;
+    for _ in 0..8191 {
+        table.push(&lines)?;
+    }
+    Ok(table)
+}
+
+// A table of 1,000,001 rows: the last one is too many.
+fn table_of_many_rows(alloc: Global) -> Result<Text, Fail> {
+    let mut table = Text::new(alloc);
+    table.push(b"time,u1,u2\n")?;
+    for time in 0..1_000_001u32 {
+        let mut digits = Buffer::new();
+        table.push(digits.format(time).as_bytes())?;
+        table.push(b",1,0\n")?;
+    }
+    Ok(table)
+}
+
+// Whether the run of GATES over this table ends so.
+fn gates_end_so(alloc: Global, table: &[u8], want: &str) -> Result<bool, Fail> {
+    let model = bytes_of(alloc, GATES, LIBRARY)?;
+    let given = Given {
+        words: RUN,
+        model: model.bytes(),
+        other: b"",
+        table,
+    };
+    let end = end_of(alloc, &given, NONE)?;
+    let want = bytes_of(alloc, want, LIBRARY)?;
+    Ok(end.bytes() == want.bytes())
+}
+
+// Whether the run of this model over a table without ticks ends so.
+fn model_ends_so(alloc: Global, model: &[u8], want: &[u8]) -> Result<bool, Fail> {
+    let given = Given {
+        words: RUN,
+        model,
+        other: b"",
+        table: b"time\n",
+    };
+    let end = end_of(alloc, &given, NONE)?;
+    Ok(end.bytes() == want)
+}
+
+// The calls that fail, in three numbers.
+fn failing_calls(words: &str) -> Result<Failing, Fail> {
+    let mut numbers = words.split(' ');
+    Ok(Failing {
+        files: numbers.next().ok_or("no files")?.parse()?,
+        out: numbers.next().ok_or("no output")?.parse()?,
+        err: numbers.next().ok_or("no error")?.parse()?,
+    })
+}
+
+#[test]
+fn jobs_end_so(rt: HostRuntime) -> Result<(), Fail> {
+    let alloc = rt.alloc();
+    for line in CASES.lines() {
+        let (case, want) = line.split_once('>').ok_or("no end")?;
+        assert!(rt; ends_with(alloc, case, want, NONE)?, "{line}");
+    }
+    for line in TABLES.lines() {
+        let (table, want) = line.split_once('>').ok_or("no end")?;
+        let table = bytes_of(alloc, table, LIBRARY)?;
+        assert!(rt; gates_end_so(alloc, table.bytes(), want)?, "{line}");
+    }
+    for words in NO_JOBS.lines() {
+        let given = Given {
+            words,
+            model: b"",
+            other: b"",
+            table: b"",
+        };
+        let end = end_of(alloc, &given, NONE)?;
+        assert!(rt; end.bytes() == USAGE, "{words}");
+    }
+    Ok(())
+}
+
+#[test]
+fn limits_are_exact(rt: HostRuntime) -> Result<(), Fail> {
+    let alloc = rt.alloc();
+    let mut table = longest_table(alloc)?;
+    assert!(rt;
+        gates_end_so(alloc, table.bytes(), "0~time,y|~")?,
+        "longest table"
+    );
+    table.push(b"\n")?;
+    assert!(rt;
+        gates_end_so(alloc, table.bytes(), "1~~t.csv: C60 table too long|")?,
+        "table too long"
+    );
+    let many = table_of_many_rows(alloc)?;
+    assert!(rt;
+        gates_end_so(
+            alloc,
+            many.bytes(),
+            "1~~t.csv:1000002:1: C66 too many ticks|"
+        )?,
+        "too many rows"
+    );
+    let mut model = longest_model(alloc)?;
+    assert!(rt;
+        model_ends_so(alloc, model.bytes(), b"0~time\n~")?,
+        "longest model"
+    );
+    model.push(b" ")?;
+    assert!(rt;
+        model_ends_so(
+            alloc,
+            model.bytes(),
+            b"1~~m.mo:2:524274: C1 model file too long\n"
+        )?,
+        "model too long"
+    );
+    Ok(())
+}
+
+#[test]
+fn each_call_fails_in_turn(rt: HostRuntime) -> Result<(), Fail> {
+    let alloc = rt.alloc();
+    for line in FAILING_CALLS.lines() {
+        let (calls, want) = line.split_once('>').ok_or("no end")?;
+        assert!(rt;
+            ends_with(alloc, TWO_MODELS, want, failing_calls(calls)?)?,
+            "{line}"
+        );
+    }
+    Ok(())
+}
