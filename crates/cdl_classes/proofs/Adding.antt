@@ -15,8 +15,8 @@ use Rattle.cdl_classes.specs.declared.gather.Class.{Class}
 use Rattle.cdl_classes.specs.declared.gather.Classes.{Classes}
 use Rattle.cdl_classes.specs.Classes.{Full, Declared, full, same_full, name_of}
 use Rattle.cdl_classes.specs.Lookup.{first_from, first_of, first_named, member_names, cdl_name, modelica_name}
-use Rattle.cdl_classes.specs.Numbered.{Names, Covers, Keeps, Grown, entry}
-use Rattle.cdl_classes.specs.Gathered.{IsShown, IsGathered, AfterAt, tree_at}
+use Rattle.cdl_classes.specs.inner.Numbered.{Names, Covers, Keeps, Grown, entry}
+use Rattle.cdl_classes.specs.inner.Gathered.{IsShown, IsGathered, AfterAt, tree_at}
 use Rattle.cdl_classes.proofs.Lists.{some_same, get_at, cases_option, zip_length, zip_push}
 use Rattle.cdl_classes.proofs.Fronts.{same_is, same_self}
 use Rattle.cdl_classes.proofs.Firsts.{first_of-push}

@@ -7,11 +7,11 @@ use Rattle.cdl_tree.specs.declared.class.FileTree.{FileTree}
 use Rattle.cdl_classes.specs.declared.gather.Class.{Class}
 use Rattle.cdl_classes.specs.declared.gather.Classes.{Classes}
 use Rattle.cdl_classes.specs.declared.found.ClassId.{ClassId}
-use Rattle.cdl_classes.specs.declared.lookup.Sort.{Sort}
+use Rattle.cdl_classes.specs.declared.lookup.ClassSort.{ClassSort}
 use Rattle.cdl_classes.specs.Classes.{Full, declared}
 use Rattle.cdl_classes.specs.Lookup.{first_of, sort_of}
-use Rattle.cdl_classes.specs.Gathered.{tree_at}
-use Rattle.cdl_classes.specs.Known.{Known}
+use Rattle.cdl_classes.specs.inner.Gathered.{tree_at}
+use Rattle.cdl_classes.specs.inner.Known.{Known}
 use Rattle.cdl_classes.specs.Table.{block_of, if_block}
 use Rattle.cdl_classes.proofs.Lists.{some_same, cases_option}
 use Rattle.cdl_classes.proofs.Adding.{named}
@@ -37,7 +37,7 @@ module _ (files now : List FileTree) (all : Classes) (h : Known files all) (e : 
   pub no_place : (n i : ℕ) (q : Full) → slice_get h.gathered.names.paths n ≡ Some q → get nat_eq all.by_name n ≡ Some i → slice_get all.list.items i ≡ None → block_of (declared now) q ≡ None
   no_place n i q at f none = block_as files now e q None (rw (first_is files all h n i q at f, unshown files all h i none) refl)
 
-  pub block_at : (n i : ℕ) (q : Full) (class : Class) (tree : ClassTree) (s : Sort) → slice_get h.gathered.names.paths n ≡ Some q → get nat_eq all.by_name n ≡ Some i
+  pub block_at : (n i : ℕ) (q : Full) (class : Class) (tree : ClassTree) (s : ClassSort) → slice_get h.gathered.names.paths n ≡ Some q → get nat_eq all.by_name n ≡ Some i
       → slice_get all.list.items i ≡ Some class → tree_at files class.file class.top class.steps.items ≡ Some tree → s ≡ sort_of tree → block_of (declared now) q ≡ if_block i s
   block_at n i q class tree s at f c t k =
       let d = shown_at files all h i class c in

@@ -2,6 +2,7 @@
 use Rattle.std.proofs.Common.{◌≡◌, ◌<◌, ◌≤◌, ◌+◌, ℕ, zero, suc, Bool, true, false, List, [], ◌∷◌, ◌++◌, map, take, drop, get_or, length, Option, Some, None, refl, sym, ◌∙◌, ap, subst, arith, inl, inr, drop-cons, add-one, nat_eq, append_assoc, append-nil, ◌||◌, ◌-◌, length-drop}
 use Rattle.std.specs.Prelude.{option_map}
 use Rattle.std.specs.List.{slice_get, list_any}
+use Rattle.std.specs.Option.{option_or}
 use Rattle.std.proofs.lemmas.Bool.{cases_Bool, false≢true, false_from_ne_true}
 use Rattle.std.proofs.lemmas.List.{same_from_push, take_more}
 use Rattle.indexmap.specs.IndexMap.{get}
@@ -13,7 +14,7 @@ use Rattle.cdl_classes.specs.declared.lookup.Sought.TheVariants.{Class as ClassN
 use Rattle.cdl_classes.specs.declared.lookup.Standing.{Standing}
 use Rattle.cdl_classes.specs.Classes.{Full, Declared, declared, full, same_full, is_front, text_of}
 use Rattle.cdl_classes.specs.Lookup.{Entity, a_class, a_package, in_cdl, in_modelica, first_from, cdl_name, modelica_name, in_library, IsFree, stands, inside, type_at, has, seek, enters, leads}
-use Rattle.cdl_classes.specs.Known.{Known, Finds, IsOwn}
+use Rattle.cdl_classes.specs.inner.Known.{Known, Finds, IsOwn}
 use Rattle.cdl_classes.proofs.Lists.{some_same, cases_option}
 use Rattle.cdl_classes.proofs.Walk.{take_whole}
 use Rattle.cdl_classes.proofs.Fronts.{same_is, and_true, bytes_same}
@@ -128,7 +129,7 @@ none_taken q zero l e = refl
 none_taken [] (suc k) l e = absurd (omega arith)
 none_taken (x ∷ q) (suc k) l e = cc
 
-take_front : (q : Full) (k : ℕ) → is_front (take k q) q ≡ true
+pub take_front : (q : Full) (k : ℕ) → is_front (take k q) q ≡ true
 take_front q zero = refl
 take_front [] (suc k) = refl
 take_front (x ∷ q) (suc k) = and_true _ (is_front (take k q) q) (bytes_same x x refl) (take_front q k)
@@ -147,3 +148,15 @@ not_front q k h =
 
 pub taken_rest : (rest : List Ident) (i : ℕ) → take (length rest - i) (drop i rest) ≡ drop i rest
 taken_rest rest i = take_whole (length rest - i) (drop i rest) (omega (arith, length-drop i rest))
+
+pub take_less : (q : Full) (j k : ℕ) → j ≤ k → take j (take k q) ≡ take j q
+take_less q zero k l = refl
+take_less q (suc j) zero l = absurd (omega arith)
+take_less [] (suc j) (suc k) l = refl
+take_less (x ∷ q) (suc j) (suc k) l = ap (λ r. x ∷ r) (take_less q j k (omega arith))
+
+-- the scopes of a front of a full name are scopes of the name
+pub seek_front : (ds : List Declared) (sought : Sought) (q : Full) (x : List ℕ) (j k : ℕ) → j ≤ k → seek ds sought (take k q) j x ≡ seek ds sought q j x
+seek_front ds sought q x zero k l = refl
+seek_front ds sought q x (suc j) k l =
+    ap (λ r. option_or (has ds sought r x) (seek ds sought (take k q) j x)) (take_less q (suc j) k l) ∙ ap (option_or (has ds sought (take (suc j) q) x)) (seek_front ds sought q x j k (omega arith))

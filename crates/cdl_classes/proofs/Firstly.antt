@@ -1,9 +1,10 @@
 -- The first of the places at which a rule is broken.
-use Rattle.std.proofs.Common.{◌≡◌, ◌⊎◌, ◌||◌, not, ◌&&◌, Bool, true, false, List, [], ◌∷◌, ◌++◌, Some, None, refl, sym, ◌∙◌, ap, subst, inl, inr}
+use Rattle.std.proofs.Common.{◌≡◌, ◌⊎◌, ◌||◌, not, ◌&&◌, Bool, true, false, List, [], ◌∷◌, ◌++◌, Option, Some, None, refl, sym, ◌∙◌, ap, subst, inl, inr}
 use Rattle.std.proofs.lemmas.Bool.{cases_Bool}
 use Rattle.cdl_source.specs.declared.place.Place.{Place}
 use Rattle.cdl_tree.specs.Parts.{class_name}
-use Rattle.cdl_classes.specs.Classes.{Declared, full}
+use Rattle.cdl_tree.specs.declared.class.FileTree.{FileTree}
+use Rattle.cdl_classes.specs.Classes.{Declared, declared, full}
 use Rattle.cdl_classes.specs.Lookup.{in_library, IsFree, sort_of}
 use Rattle.cdl_classes.specs.Places.{not_after, soonest, least, In}
 use Rattle.cdl_classes.specs.Rules.{place, is_package, is_needed, is_type, is_taken, if_broken, taken_in, taken_of, broken_11}
@@ -109,3 +110,9 @@ free_from whole (d ∷ ds) e =
 
 pub free : (ds : List Declared) → broken_11 ds ≡ [] → IsFree ds
 free ds e = free_from ds ds e
+
+pub first_as : (broken : List Declared → List Place) (files now : List FileTree) → now ≡ files → (r : Option Place) (p : Place) → r ≡ least None (broken (declared now)) → r ≡ Some p → IsFirst (broken (declared files)) p
+first_as broken files now e r p l is = first_of_all (broken (declared files)) p (ap (λ (fs : List FileTree). least None (broken (declared fs))) (sym e) ∙ sym l ∙ is)
+
+pub none_as : (broken : List Declared → List Place) (files now : List FileTree) → now ≡ files → (r : Option Place) → r ≡ least None (broken (declared now)) → r ≡ None → broken (declared files) ≡ []
+none_as broken files now e r l is = none_of_all (broken (declared files)) (ap (λ (fs : List FileTree). least None (broken (declared fs))) (sym e) ∙ sym l ∙ is)

@@ -33,7 +33,7 @@ drop_at (y ∷ xs) (suc i) x e =
     let next : suc (i + 1) ≡ suc i + 1 = omega arith in
     drop_at xs i x e ∙ ap (λ j. x ∷ drop j (y ∷ xs)) next
 
-mapped_some : {A B : Type 0} (f : A → B) (o : Option A) (y : B) → option_map f o ≡ Some y → (x : A) × (o ≡ Some x) × (f x ≡ y)
+pub mapped_some : {A B : Type 0} (f : A → B) (o : Option A) (y : B) → option_map f o ≡ Some y → (x : A) × (o ≡ Some x) × (f x ≡ y)
 mapped_some f None y e = cc
 mapped_some f (Some x) y e = (x, refl, some_same (f x) y e)
 

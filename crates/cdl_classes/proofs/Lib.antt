@@ -22,3 +22,6 @@ pub mod MarkLaws
 pub mod TwiceClasses
 pub mod Listing
 pub mod Firstly
+pub mod Passing
+pub mod ItemClasses
+pub mod Answers

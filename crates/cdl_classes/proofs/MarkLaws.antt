@@ -12,10 +12,10 @@ use Rattle.cdl_source.specs.declared.place.Place.{Place}
 use Rattle.cdl_tree.specs.declared.name.Ident.{Ident}
 use Rattle.cdl_classes.specs.Classes.{Full, same_full, text_of}
 use Rattle.cdl_classes.specs.Lookup.{first_named, first_named_from}
-use Rattle.cdl_classes.specs.Numbered.{entry}
+use Rattle.cdl_classes.specs.inner.Numbered.{entry}
 use Rattle.cdl_classes.specs.Places.{not_after, soonest, latest, sooner, least}
 use Rattle.cdl_classes.specs.Rules.{Named, place, later_of, with_name, twice_from, again_from}
-use Rattle.cdl_classes.specs.Marks.{mark_from, Marks, and_later}
+use Rattle.cdl_classes.specs.inner.Marks.{mark_from, Marks, and_later}
 use Rattle.cdl_classes.proofs.Lists.{some_same, get_written}
 use Rattle.cdl_classes.proofs.Fronts.{both, and_true, either, or_left, or_right, same_bytes, bytes_same, same_is, same_self}
 use Rattle.cdl_classes.proofs.Items.{least-append, drop_at}

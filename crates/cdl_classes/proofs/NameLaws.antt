@@ -12,7 +12,7 @@ use Rattle.std.proofs.lemmas.Option.{slice_get_within}
 use Rattle.std.proofs.lemmas.Slice.Eq.{bytes_eq-Decides}
 use Rattle.cdl_classes.specs.declared.names.Node.{Node}
 use Rattle.cdl_classes.specs.Classes.{Full}
-use Rattle.cdl_classes.specs.Numbered.{Numbers, Inside, child}
+use Rattle.cdl_classes.specs.inner.Numbered.{Numbers, Inside, child}
 use Rattle.cdl_classes.proofs.Entries.{order, at, lookup-insert}
 use Rattle.cdl_classes.proofs.Lists.{some_same, get_left, get_last, get_pushed, get_written, get_at}
 

@@ -11,14 +11,17 @@ use Rattle.cdl_classes.specs.declared.names.Node.{Node}
 use Rattle.cdl_classes.specs.declared.gather.Classes.{Classes}
 use Rattle.cdl_classes.specs.Classes.{Full, declared, full, is_front, same_full}
 use Rattle.cdl_classes.specs.Lookup.{library, cdl_name, modelica_name, in_library}
-use Rattle.cdl_classes.specs.Numbered.{child}
-use Rattle.cdl_classes.specs.Gathered.{IsGathered}
+use Rattle.cdl_classes.specs.inner.Numbered.{child}
+use Rattle.cdl_classes.specs.inner.Gathered.{IsGathered}
 use Rattle.cdl_classes.specs.Rules.{is_around, is_needed}
 use Rattle.cdl_classes.proofs.Lists.{some_same, get_at}
-use Rattle.std.specs.Prelude.{IsTrue}
+use Rattle.std.specs.Prelude.{IsTrue, unwrap_or}
 use Rattle.std.specs.Map.{lookup}
 use Rattle.cdl_classes.proofs.Entries.{at}
 use Rattle.cdl_classes.proofs.Fronts.{both, and_true, either, or_left, or_right, bytes_same, front_trans, front_append, front_push}
+
+pub marked : {o : Option Bool} {b : Bool} → o ≡ Some b → unwrap_or o false ≡ b
+marked e = ap (λ (o : Option Bool). unwrap_or o false) e
 
 pub bool_same : (a b : Bool) → (a ≡ true → b ≡ true) → (b ≡ true → a ≡ true) → a ≡ b
 bool_same true true h i = refl

@@ -11,14 +11,14 @@ use Rattle.cdl_classes.specs.declared.names.Node.{Node}
 use Rattle.cdl_classes.specs.declared.gather.Class.{Class}
 use Rattle.cdl_classes.specs.declared.gather.Classes.{Classes}
 use Rattle.cdl_classes.specs.Classes.{Full, Declared, declared, full, same_full}
-use Rattle.cdl_classes.specs.declared.lookup.Sort.{Sort}
-use Rattle.cdl_classes.specs.declared.lookup.Sort.TheVariants as sort
+use Rattle.cdl_classes.specs.declared.lookup.ClassSort.{ClassSort}
+use Rattle.cdl_classes.specs.declared.lookup.ClassSort.TheVariants as sort
 use Rattle.cdl_classes.specs.declared.lookup.Sought.{Sought}
 use Rattle.cdl_classes.specs.declared.lookup.Sought.TheVariants.{Class as ClassNames, Value}
 use Rattle.cdl_classes.specs.Lookup.{first_of, cdl_name, modelica_name, library, in_library, IsFree, exists, stands, inside, a_class, sort_of, constant_at, constant_in, class_enters, enters}
-use Rattle.cdl_classes.specs.Numbered.{child, entry}
-use Rattle.cdl_classes.specs.Gathered.{IsShown, IsGathered, descend, tree_at}
-use Rattle.cdl_classes.specs.Known.{Known}
+use Rattle.cdl_classes.specs.inner.Numbered.{child, entry}
+use Rattle.cdl_classes.specs.inner.Gathered.{IsShown, IsGathered, descend, tree_at}
+use Rattle.cdl_classes.specs.inner.Known.{Known}
 use Rattle.cdl_classes.proofs.Lists.{some_same, cases_option, zip_at, zip_none}
 use Rattle.cdl_classes.proofs.Fronts.{or_left, or_right, same_is}
 use Rattle.cdl_classes.proofs.Adding.{named}
@@ -96,7 +96,7 @@ module _ (files : List FileTree) (all : Classes) (h : Known files all) where
       → constant_at (declared files) q x ≡ None
   no_class scope number q x at e none = rw (first_is scope number q at e, unshown number none) refl
 
-  pub constant_is : (scope number : ℕ) (q : Full) (x : List ℕ) (class : Class) (tree : ClassTree) (s : Sort) → slice_get h.gathered.names.paths scope ≡ Some q → get nat_eq all.by_name scope ≡ Some number
+  pub constant_is : (scope number : ℕ) (q : Full) (x : List ℕ) (class : Class) (tree : ClassTree) (s : ClassSort) → slice_get h.gathered.names.paths scope ≡ Some q → get nat_eq all.by_name scope ≡ Some number
       → slice_get all.list.items number ≡ Some class → tree_at files class.file class.top class.steps.items ≡ Some tree → s ≡ sort_of tree
       → constant_at (declared files) q x ≡ constant_in number s (entry class.members x)
   constant_is scope number q x class tree s at e c t k =
@@ -105,7 +105,7 @@ module _ (files : List FileTree) (all : Classes) (h : Known files all) where
       let sort : sort_of (d.0).tree ≡ s = sym (k ∙ ap sort_of same) in
       rw (first_is scope number q at e, d.1, sort, ← (d.2).members x) refl
 
-  pub enters_class : (sought : Sought) (number : ℕ) (x : List ℕ) (class : Class) (tree : ClassTree) (s : Sort) → slice_get all.list.items number ≡ Some class
+  pub enters_class : (sought : Sought) (number : ℕ) (x : List ℕ) (class : Class) (tree : ClassTree) (s : ClassSort) → slice_get all.list.items number ≡ Some class
       → tree_at files class.file class.top class.steps.items ≡ Some tree → s ≡ sort_of tree
       → (d : Declared) × (IsShown h.gathered.names.paths files class d) × (in_library (full d) ≡ false)
       × (enters (declared files) sought (a_class number) x ≡ class_enters (declared files) sought number d s x)

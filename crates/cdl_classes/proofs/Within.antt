@@ -13,8 +13,8 @@ use Rattle.cdl_classes.specs.declared.gather.Classes.{Classes}
 use Rattle.cdl_classes.specs.Classes.{Full, Declared, full, is_front, declared, declared_from, declared_in, declared_all, name_of, within_of}
 use Rattle.cdl_classes.specs.Lookup.{library, cdl_name, modelica_name}
 use Rattle.cdl_classes.specs.declared.gather.Class.{Class}
-use Rattle.cdl_classes.specs.Numbered.{Numbers, Names, Covers, Keeps, Grown, WithinAdded}
-use Rattle.cdl_classes.specs.Gathered.{IsShown, IsGathered, After, FileSoFar, tree_at}
+use Rattle.cdl_classes.specs.inner.Numbered.{Numbers, Names, Covers, Keeps, Grown, WithinAdded}
+use Rattle.cdl_classes.specs.inner.Gathered.{IsShown, IsGathered, After, FileSoFar, tree_at}
 use Rattle.cdl_classes.proofs.Lists.{some_same}
 use Rattle.cdl_classes.proofs.Fronts.{both, and_true, either, or_left, front_self, front_trans, front_append, any_trans, any_left, any_right, any_split}
 use Rattle.cdl_classes.proofs.Adding.{first_kept, still_shown, grown_to}

@@ -1,11 +1,8 @@
 pub mod Classes
 pub mod Lookup
-pub mod Numbered
-pub mod Gathered
-pub mod Known
 pub mod Found
 pub mod Table
 pub mod Places
 pub mod Rules
-pub mod Marks
 pub mod Verdict
+pub mod inner
