@@ -25,3 +25,4 @@ pub mod Firstly
 pub mod Passing
 pub mod ItemClasses
 pub mod Answers
+pub mod FirstScope

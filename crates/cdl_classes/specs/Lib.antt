@@ -1,5 +1,6 @@
 pub mod Classes
 pub mod Lookup
+pub mod Scopes
 pub mod Found
 pub mod Table
 pub mod Places

@@ -9,6 +9,7 @@ mod free_names;
 mod full_name;
 mod gather;
 mod item_classes;
+mod law;
 mod lookup;
 mod members;
 mod names;
@@ -17,5 +18,6 @@ mod scopes;
 mod table;
 
 pub use found::{ClassId, Found, ValueFound};
+pub use law::first_scope_counts;
 pub use lookup::{ClassSort, Sought};
 pub use table::{ClassFault, ClassTable};
