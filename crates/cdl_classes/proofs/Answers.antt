@@ -1,4 +1,5 @@
 -- What a table answers is in range, and of the sort that it says.
+use Rattle.std.proofs.lemmas.Option.{same_Some}
 use Rattle.std.proofs.Common.{◌≡◌, ◌<◌, ◌≤◌, ◌+◌, ℕ, zero, suc, Bool, true, false, List, [], ◌∷◌, ◌++◌, map, length, Option, Some, None, Vec, nat_lt, refl, sym, ◌∙◌, ap, subst, inl, inr, arith, length-append}
 use Rattle.std.specs.Prelude.{IfSome, option_and_then, option_map, if◌then◌else◌}
 use Rattle.std.specs.List.{slice_get}
@@ -24,7 +25,7 @@ use Rattle.cdl_classes.specs.Rules.{broken_12, class_of, class_place, if_broken,
 use Rattle.cdl_classes.specs.Table.{IsOf, IsValue, block_of, if_block, item_of, items_at}
 use Rattle.cdl_classes.specs.inner.Kept.{AreItemClasses, classes_of}
 use Rattle.cdl_classes.specs.declared.found.Found.{Found}
-use Rattle.cdl_classes.proofs.Lists.{some_same, get_at}
+use Rattle.cdl_classes.proofs.Lists.{get_at}
 use Rattle.cdl_classes.proofs.Meaning.{Valid, yields_meaning}
 use Rattle.cdl_classes.proofs.Walk.{then_some}
 
@@ -67,10 +68,10 @@ value_is ds (in_modelica below) v h e = cc
 value_is ds (a_type t) v h e = cc
 value_is ds (a_constant p i) v h e =
     let P : ValueFound → Type 0 = λ x. IsValue ds x in
-    subst P (some_same _ v e) (record { declared = h.0; at = h.1; sort = h.2 }, constant_within (h.0).tree i h.2 h.3)
+    subst P (same_Some _ v e) (record { declared = h.0; at = h.1; sort = h.2 }, constant_within (h.0).tree i h.2 h.3)
 value_is ds (a_literal c k) v h e =
     let P : ValueFound → Type 0 = λ x. IsValue ds x in
-    subst P (some_same _ v e) (record { declared = h.0; at = h.1; sort = h.2 }, omega arith, literal_within (h.0).tree k h.2 h.3)
+    subst P (same_Some _ v e) (record { declared = h.0; at = h.1; sort = h.2 }, omega arith, literal_within (h.0).tree k h.2 h.3)
 
 pub value_known : (ds : List Declared) (number : ℕ) (name : Full) (v : ValueFound) → option_and_then value_of (meaning ds Value number name) ≡ Some v → IsValue ds v
 value_known ds number name v e =
@@ -81,7 +82,7 @@ value_known ds number name v e =
 
 block_sort : (ds : List Declared) (i : ℕ) (d : Declared) (s : ClassSort) (c : ClassId) → slice_get ds i ≡ Some d → sort_of d.tree ≡ s → if_block i s ≡ Some c → IsOf ds sort.Block c
 block_sort ds i d sort.Block c a s e =
-    let index : i ≡ c.index = ap (λ (x : ClassId). x.index) (some_same (record { index = i }) c e) in
+    let index : i ≡ c.index = ap (λ (x : ClassId). x.index) (same_Some (record { index = i }) c e) in
     record { declared = d; at = ap (λ k. slice_get ds k) (sym index) ∙ a; sort = s }
 block_sort ds i d sort.Package c a s e = cc
 block_sort ds i d sort.Enumeration c a s e = cc
@@ -99,7 +100,7 @@ from_below i k x [] e = cc
 from_below i k x (y ∷ ys) e =
     elim (cases_Bool (bytes_eq x y)) [
       | inl hit ↦
-          let same : i ≡ k = some_same i k (rw hit at e) in
+          let same : i ≡ k = same_Some i k (rw hit at e) in
           omega arith
       | inr miss ↦
           let rest = from_below (i + 1) k x ys (rw miss at e) in
@@ -119,7 +120,7 @@ front_some i k x [] zs e =
 front_some i k x (y ∷ ys) zs e =
     elim (cases_Bool (bytes_eq x y)) [
       | inl hit ↦
-          let same : i ≡ k = some_same i k (rw hit at e) in
+          let same : i ≡ k = same_Some i k (rw hit at e) in
           rw (less_if k (i + length (y ∷ ys)) (omega arith), hit) (ap (λ z. Some z) (sym same))
       | inr miss ↦
           let size : i + length (y ∷ ys) ≡ (i + 1) + length ys = omega arith in
@@ -161,14 +162,14 @@ nothing_in (p ∷ ps) qs e = cc
 
 none_in : (test : ℕ → Item → Bool) (i file : ℕ) (xs : List Item) (j : ℕ) (x : Item) → places_in test i file xs ≡ [] → slice_get xs j ≡ Some x → test i x ≡ false
 none_in test i file [] j x e at = cc
-none_in test i file (y ∷ xs) zero x e at = ap (test i) (sym (some_same y x at)) ∙ (none_broken (test i y) (class_place file y) (places_in test i file xs) e).0
+none_in test i file (y ∷ xs) zero x e at = ap (test i) (sym (same_Some y x at)) ∙ (none_broken (test i y) (class_place file y) (places_in test i file xs) e).0
 none_in test i file (y ∷ xs) (suc j) x e at = none_in test i file xs j x (none_broken (test i y) (class_place file y) (places_in test i file xs) e).1 at
 
 none_from : (test : ℕ → Item → Bool) (n k i : ℕ) (ds : List Declared) (d : Declared) (j : ℕ) (x : Item) → n + k ≡ i → places_from test n ds ≡ [] → slice_get ds k ≡ Some d → slice_get (items_of d.tree) j ≡ Some x → test i x ≡ false
 none_from test n k i [] d j x s e at it = cc
 none_from test n zero i (c ∷ ds) d j x s e at it =
     let here = (nothing_in (places_in test n c.file (items_of c.tree)) (places_from test (n + 1) ds) e).0 in
-    let there : slice_get (items_of c.tree) j ≡ Some x = ap (λ (z : Declared). slice_get (items_of z.tree) j) (some_same c d at) ∙ it in
+    let there : slice_get (items_of c.tree) j ≡ Some x = ap (λ (z : Declared). slice_get (items_of z.tree) j) (same_Some c d at) ∙ it in
     let same : n ≡ i = omega arith in
     ap (λ m. test m x) (sym same) ∙ none_in test n c.file (items_of c.tree) j x here there
 none_from test n (suc k) i (c ∷ ds) d j x s e at it =
@@ -176,7 +177,7 @@ none_from test n (suc k) i (c ∷ ds) d j x s e at it =
 
 mapped_get : {A B : Type 0} (f : A → B) (xs : List A) (j : ℕ) (x : A) → slice_get xs j ≡ Some x → slice_get (map f xs) j ≡ Some (f x)
 mapped_get f [] j x e = cc
-mapped_get f (y ∷ xs) zero x e = ap (λ z. Some (f z)) (some_same y x e)
+mapped_get f (y ∷ xs) zero x e = ap (λ z. Some (f z)) (same_Some y x e)
 mapped_get f (y ∷ xs) (suc j) x e = mapped_get f xs j x e
 
 module _ (ds : List Declared) (rows : List (Vec (Option Found) Global)) (t : AreItemClasses ds rows) (i j : ℕ) (row : Vec (Option Found) Global) (within : i < length ds) (at : slice_get rows i ≡ Some row) where
@@ -197,7 +198,7 @@ module _ (ds : List Declared) (rows : List (Vec (Option Found) Global)) (t : Are
   pub class_is : (x : Item) (found : Option Found) → option_and_then (λ items. slice_get items j) (items_at ds i) ≡ Some x → slice_get row.items j ≡ Some found → class_of ds i x ≡ found
   class_is x found h r =
       let d = class_at in
-      some_same (class_of ds i x) found (sym (mapped_get (class_of ds i) (items_of (d.0).tree) j x (item_there x d.0 d.1 h)) ∙ sym (ap (λ ys. slice_get ys j) d.2) ∙ r)
+      same_Some (class_of ds i x) found (sym (mapped_get (class_of ds i) (items_of (d.0).tree) j x (item_there x d.0 d.1 h)) ∙ sym (ap (λ ys. slice_get ys j) d.2) ∙ r)
 
   pub class_found : (x : Item) → broken_12 ds ≡ [] → option_and_then (λ items. slice_get items j) (items_at ds i) ≡ Some x → class_of ds i x ≡ None → ⊥
   class_found x unbroken h none =

@@ -1,4 +1,5 @@
 -- The declared block of a full name.
+use Rattle.std.proofs.lemmas.Option.{same_Some}
 use Rattle.std.proofs.Common.{◌≡◌, ◌∙◌, ℕ, List, Option, Some, None, ap, sym, refl, nat_eq, inl, inr}
 use Rattle.std.specs.List.{slice_get}
 use Rattle.indexmap.specs.IndexMap.{get}
@@ -13,7 +14,7 @@ use Rattle.cdl_classes.specs.Lookup.{first_of, sort_of}
 use Rattle.cdl_classes.specs.inner.Gathered.{tree_at}
 use Rattle.cdl_classes.specs.inner.Known.{Known}
 use Rattle.cdl_classes.specs.Table.{block_of, if_block}
-use Rattle.cdl_classes.proofs.Lists.{some_same, cases_option}
+use Rattle.cdl_classes.proofs.Lists.{cases_option}
 use Rattle.cdl_classes.proofs.Adding.{named}
 use Rattle.cdl_classes.proofs.Standing.{shown_at, unshown, first_is}
 
@@ -41,6 +42,6 @@ module _ (files now : List FileTree) (all : Classes) (h : Known files all) (e : 
       → slice_get all.list.items i ≡ Some class → tree_at files class.file class.top class.steps.items ≡ Some tree → s ≡ sort_of tree → block_of (declared now) q ≡ if_block i s
   block_at n i q class tree s at f c t k =
       let d = shown_at files all h i class c in
-      let same : tree ≡ (d.0).tree = some_same _ _ (sym t ∙ (d.2).tree) in
+      let same : tree ≡ (d.0).tree = same_Some _ _ (sym t ∙ (d.2).tree) in
       let sort : sort_of (d.0).tree ≡ s = sym (k ∙ ap sort_of same) in
       block_as files now e q (if_block i s) (rw (first_is files all h n i q at f, d.1, sort) refl)

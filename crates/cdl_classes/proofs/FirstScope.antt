@@ -1,13 +1,13 @@
 -- The computing look-up and the one by scopes are the same.
-use Rattle.std.proofs.Common.{◌≡◌, ◌<◌, ◌≤◌, ◌⊎◌, ℕ, zero, suc, List, [], ◌∷◌, take, length, Option, Some, None, refl, sym, ◌∙◌, ap, inl, inr, arith}
-use Rattle.std.specs.Prelude.{◌↔◌, option_and_then}
-use Rattle.std.specs.Option.{option_or}
+use Rattle.std.proofs.lemmas.Option.{same_Some}
+use Rattle.std.proofs.Common.{◌≡◌, ◌<◌, ◌≤◌, ℕ, zero, suc, List, [], ◌∷◌, take, length, Some, None, sym, ◌∙◌, ap, inl, inr, arith}
+use Rattle.std.specs.Prelude.{◌↔◌}
 use Rattle.std.proofs.lemmas.Bool.{cases_lt}
 use Rattle.cdl_classes.specs.declared.lookup.Sought.{Sought}
 use Rattle.cdl_classes.specs.Classes.{Full, Declared}
 use Rattle.cdl_classes.specs.Lookup.{Entity, has, seek, enters, leads, lookup}
-use Rattle.cdl_classes.specs.Scopes.{IsFoundAt, LeadsTo, Means}
-use Rattle.cdl_classes.proofs.Lists.{some_same, cases_option}
+use Rattle.cdl_classes.specs.Scopes.{LeadsTo, Means}
+use Rattle.cdl_classes.proofs.Lists.{cases_option}
 use Rattle.cdl_classes.proofs.Finding.{seek_found, seek_further}
 use Rattle.cdl_classes.proofs.Walk.{then_some}
 
@@ -34,7 +34,7 @@ module _ (ds : List Declared) (sought : Sought) (outer : Full) (x : List ℕ) (e
                   ],
             )
         | inr some ↦
-            let same : some.0 ≡ e = some_same some.0 e (sym (seek_found ds sought outer (suc k) x some.0 some.1) ∙ h) in
+            let same : some.0 ≡ e = same_Some some.0 e (sym (seek_found ds sought outer (suc k) x some.0 some.1) ∙ h) in
             (suc k, omega arith, some.1 ∙ ap (λ f. Some f) same, λ m l u. absurd (omega arith))
       ]
 
@@ -49,7 +49,7 @@ module _ (ds : List Declared) (sought : Sought) (outer : Full) (x : List ℕ) (e
       ]
 
 leads_to : (ds : List Declared) (sought : Sought) (f e : Entity) (rest : Full) → leads ds sought f rest ≡ Some e → LeadsTo ds sought f rest e
-leads_to ds sought f e [] h = some_same f e h
+leads_to ds sought f e [] h = same_Some f e h
 leads_to ds sought f e (x ∷ rest) h =
     let g = then_some (λ g. leads ds sought g rest) (enters ds sought f x) e h in
     (g.0, g.1, leads_to ds sought g.0 e rest g.2)

@@ -1,4 +1,5 @@
 -- The first of the places at which a rule is broken.
+use Rattle.std.proofs.lemmas.Option.{same_Some}
 use Rattle.std.proofs.Common.{◌≡◌, ◌⊎◌, ◌||◌, not, ◌&&◌, Bool, true, false, List, [], ◌∷◌, ◌++◌, Option, Some, None, refl, sym, ◌∙◌, ap, subst, inl, inr}
 use Rattle.std.proofs.lemmas.Bool.{cases_Bool}
 use Rattle.cdl_source.specs.declared.place.Place.{Place}
@@ -9,7 +10,6 @@ use Rattle.cdl_classes.specs.Lookup.{in_library, IsFree, sort_of}
 use Rattle.cdl_classes.specs.Places.{not_after, soonest, least, In}
 use Rattle.cdl_classes.specs.Rules.{place, is_package, is_needed, is_type, is_taken, if_broken, taken_in, taken_of, broken_11}
 use Rattle.cdl_classes.specs.Verdict.{IsFirst}
-use Rattle.cdl_classes.proofs.Lists.{some_same}
 use Rattle.cdl_classes.proofs.MarkLaws.{self, total, trans}
 
 -- the first of these places where one is known
@@ -38,8 +38,8 @@ is_either a b p h =
 
 first_with : (known : Place) (places : List Place) (p : Place) → least (Some known) places ≡ Some p → FirstWith known places p
 first_with known [] p e = record {
-  is_one = inl (sym (some_same known p e));
-  before = let P : Place → Type 0 = λ x. not_after x known ≡ true in subst P (some_same known p e) (self known);
+  is_one = inl (sym (same_Some known p e));
+  before = let P : Place → Type 0 = λ x. not_after x known ≡ true in subst P (same_Some known p e) (self known);
   first = λ q i. absurd i;
 }
 first_with known (r ∷ places) p e =

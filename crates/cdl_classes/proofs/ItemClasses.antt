@@ -1,4 +1,5 @@
 -- What the class names of the items mean, class by class.
+use Rattle.std.proofs.lemmas.Option.{same_Some}
 use Rattle.std.proofs.Common.{◌≡◌, ◌<◌, ◌+◌, ℕ, zero, suc, List, [], ◌∷◌, ◌++◌, map, take, get_or, length, Option, Some, Vec, sym, ◌∙◌, ap, inl, inr, arith}
 use Rattle.std.specs.Prelude.{option_map}
 use Rattle.std.specs.declared.alloc.Global.{Global}
@@ -11,7 +12,7 @@ use Rattle.cdl_classes.specs.declared.found.Found.{Found}
 use Rattle.cdl_classes.specs.Classes.{Declared}
 use Rattle.cdl_classes.specs.inner.Kept.{AreItemClasses, classes_of}
 use Rattle.cdl_classes.proofs.Items.{mapped_some}
-use Rattle.cdl_classes.proofs.Lists.{some_same, get_pushed}
+use Rattle.cdl_classes.proofs.Lists.{get_pushed}
 
 pub mapped_or : {A B : Type 0} (f : A → B) (xs : List A) (i : ℕ) (x : A) (other : B) → i < length xs → x ≡ get_or xs i x → get_or (map f xs) i other ≡ f x
 mapped_or f [] i x other h e = absurd (omega arith)
@@ -24,7 +25,7 @@ mapped_more f xs i x y h e g =
 
 -- the tree of a class
 tree_is : (ds : List Declared) (i : ℕ) (d : Declared) (tree : ClassTree) → slice_get ds i ≡ Some d → option_map (λ (d : Declared). d.tree) (slice_get ds i) ≡ Some tree → d.tree ≡ tree
-tree_is ds i d tree e t = some_same d.tree tree (sym (ap (option_map (λ (d : Declared). d.tree)) e) ∙ t)
+tree_is ds i d tree e t = same_Some d.tree tree (sym (ap (option_map (λ (d : Declared). d.tree)) e) ∙ t)
 
 pub row_is : (ds : List Declared) (rows : List (Vec (Option Found) Global)) (i : ℕ) (tree : ClassTree) (items : List Item) (row : Vec (Option Found) Global) (lent : List (Option Found)) → AreItemClasses ds rows
     → option_map (λ (d : Declared). d.tree) (slice_get ds i) ≡ Some tree → items ≡ items_of tree → slice_get rows i ≡ Some row → lent ≡ row.items → lent ≡ classes_of ds i items

@@ -4,8 +4,8 @@ use Rattle.std.specs.Prelude.{option_and_then, option_map, if◌then◌else◌}
 use Rattle.std.specs.List.{slice_get}
 use Rattle.std.specs.Option.{option_or}
 use Rattle.std.specs.Str.{bytes_eq}
-use Rattle.std.proofs.lemmas.Bool.{cases_Bool, false≢true, false_from_ne_true}
-use Rattle.std.proofs.lemmas.Option.{slice_get_within}
+use Rattle.std.proofs.lemmas.Bool.{cases_Bool, false≢true, false_from_ne_true, or_parts}
+use Rattle.std.proofs.lemmas.Option.{slice_get_within, same_Some}
 use Rattle.cdl_tree.specs.declared.class.ClassTree.{ClassTree}
 use Rattle.cdl_tree.specs.declared.class.FileTree.{FileTree}
 use Rattle.cdl_classes.specs.declared.gather.Class.{Class}
@@ -21,16 +21,14 @@ use Rattle.cdl_classes.specs.Lookup.{Entity, a_class, a_package, in_cdl, in_mode
 use Rattle.cdl_classes.specs.inner.Gathered.{IsShown, tree_at}
 use Rattle.cdl_classes.specs.inner.Known.{Known, Scoped, IsSmall, means}
 use Rattle.cdl_classes.specs.inner.Kept.{names_of}
-use Rattle.cdl_classes.proofs.Lists.{some_same}
 use Rattle.cdl_classes.proofs.Walk.{then_some}
 use Rattle.cdl_classes.proofs.Fronts.{front_trans, front_append}
 use Rattle.cdl_classes.proofs.Standing.{shown_at, unshown, free_full}
-use Rattle.cdl_classes.proofs.Finding.{neither}
 
 -- what lies around a class lies in no library
 outer_free : (q : Full) (x : List ℕ) → in_library (q ++ x ∷ []) ≡ false → in_library q ≡ false
 outer_free q x h =
-    let fs = neither (is_front cdl_name (q ++ x ∷ [])) (is_front modelica_name (q ++ x ∷ [])) h in
+    let fs = or_parts (is_front cdl_name (q ++ x ∷ [])) (is_front modelica_name (q ++ x ∷ [])) h in
     let c : is_front cdl_name q ≡ false = false_from_ne_true _ (λ e. false≢true (sym fs.0 ∙ front_trans cdl_name q (q ++ x ∷ []) e (front_append q (x ∷ [])))) in
     let m : is_front modelica_name q ≡ false = false_from_ne_true _ (λ e. false≢true (sym fs.1 ∙ front_trans modelica_name q (q ++ x ∷ []) e (front_append q (x ∷ [])))) in
     rw (c, m) refl
@@ -61,7 +59,7 @@ module _ (files : List FileTree) (all : Classes) (h : Known files all) (number :
       × (meaning (declared files) sought number name ≡ lookup (declared files) sought (scope_at d s) name)
   meaning_is sought tree s name t k =
       let d = shown_at files all h number class c in
-      let same : tree ≡ (d.0).tree = some_same _ _ (sym t ∙ (d.2).tree) in
+      let same : tree ≡ (d.0).tree = same_Some _ _ (sym t ∙ (d.2).tree) in
       let sort_is : sort_of (d.0).tree ≡ s = sym (k ∙ ap sort_of same) in
       let free = free_full (declared files) number d.0 h.free d.1 in
       (d.0, d.2, free, outer_free (d.0).outer (name_of (d.0).tree) free, rw (d.1, sort_is) refl)
@@ -75,7 +73,7 @@ first_bound i k q [] e = cc
 first_bound i k q (d ∷ ds) e =
     elim (cases_Bool (same_full q (full d))) [
       | inl hit ↦
-          let same : i ≡ k = some_same i k (rw hit at e) in
+          let same : i ≡ k = same_Some i k (rw hit at e) in
           omega arith
       | inr miss ↦
           let rest = first_bound (i + 1) k q ds (rw miss at e) in
@@ -87,7 +85,7 @@ named_bound i k x [] e = cc
 named_bound i k x (y ∷ ys) e =
     elim (cases_Bool (bytes_eq x y)) [
       | inl hit ↦
-          let same : i ≡ k = some_same i k (rw hit at e) in
+          let same : i ≡ k = same_Some i k (rw hit at e) in
           omega arith
       | inr miss ↦
           let rest = named_bound (i + 1) k x ys (rw miss at e) in
@@ -121,7 +119,7 @@ valid_as : (ds : List Declared) (e f : Entity) → e ≡ f → Valid ds e → Va
 valid_as ds e f s h = let P : Entity → Type 0 = λ x. Valid ds x in subst P s h
 
 yields_some : (ds : List Declared) (f : Entity) → Valid ds f → Yields ds (Some f)
-yields_some ds f h e s = valid_as ds f e (some_same f e s) h
+yields_some ds f h e s = valid_as ds f e (same_Some f e s) h
 
 yields_none : (ds : List Declared) → Yields ds None
 yields_none ds e s = cc
@@ -219,7 +217,7 @@ counted (d ∷ ds) =
 pub member_counted : (ds : List Declared) (p : ℕ) (d : Declared) → slice_get ds p ≡ Some d → length (member_names d.tree) + 1 ≤ names_of ds
 member_counted [] p d e = cc
 member_counted (c ∷ ds) zero d e =
-    let same : length (member_names c.tree) ≡ length (member_names d.tree) = ap (λ (x : Declared). length (member_names x.tree)) (some_same c d e) in
+    let same : length (member_names c.tree) ≡ length (member_names d.tree) = ap (λ (x : Declared). length (member_names x.tree)) (same_Some c d e) in
     let more : names_of (c ∷ ds) ≡ (1 + length (member_names c.tree)) + names_of ds = refl in
     omega arith
 member_counted (c ∷ ds) (suc p) d e =
@@ -228,17 +226,17 @@ member_counted (c ∷ ds) (suc p) d e =
 
 small_if : (ds : List Declared) (paths : List Full) (s : Standing) (e : Entity) → names_of ds < 2 ^ 32 → means paths s ≡ Some e → Valid ds e → IsSmall s
 small_if ds paths (standing.Class i) e few m v =
-    let here = valid_as ds e (a_class i) (some_same e (a_class i) (sym m)) v in
+    let here = valid_as ds e (a_class i) (same_Some e (a_class i) (sym m)) v in
     omega (arith, counted ds, here)
 small_if ds paths (standing.Package n) e few m v = tt
 small_if ds paths (standing.Cdl rest) e few m v = tt
 small_if ds paths (standing.Modelica rest) e few m v = tt
 small_if ds paths (standing.Type t) e few m v = tt
 small_if ds paths (standing.Constant p i) e few m v =
-    let here = valid_as ds e (a_constant p i) (some_same e (a_constant p i) (sym m)) v in
+    let here = valid_as ds e (a_constant p i) (same_Some e (a_constant p i) (sym m)) v in
     (omega (arith, counted ds, slice_get_within ds p here.0 here.1), omega (arith, member_counted ds p here.0 here.1, here.3))
 small_if ds paths (standing.Literal c k) e few m v =
-    let here = valid_as ds e (a_literal c k) (some_same e (a_literal c k) (sym m)) v in
+    let here = valid_as ds e (a_literal c k) (same_Some e (a_literal c k) (sym m)) v in
     (omega (arith, counted ds, slice_get_within ds c here.0 here.1), omega (arith, member_counted ds c here.0 here.1, here.3))
 
 pub small : (ds : List Declared) (paths : List Full) (s : Standing) (e : Entity) (sought : Sought) (number : ℕ) (name : Full) → names_of ds < 2 ^ 32 → means paths s ≡ Some e

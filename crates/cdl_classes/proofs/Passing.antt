@@ -7,10 +7,10 @@ use Rattle.std.specs.Str.{bytes_eq}
 use Rattle.std.specs.Map.{lookup}
 use Rattle.std.specs.declared.alloc.Global.{Global}
 use Rattle.std.proofs.Math.Seq.{take-length}
-use Rattle.std.proofs.lemmas.Bool.{cases_Bool, cases_lt, false≢true, false_from_ne_true}
+use Rattle.std.proofs.lemmas.Bool.{cases_Bool, cases_lt, false≢true, false_from_ne_true, or_parts}
 use Rattle.std.proofs.lemmas.Bool.Decides.{eqb_tells}
 use Rattle.std.proofs.lemmas.Map.Text.{is_eq-slice_cmp}
-use Rattle.std.proofs.lemmas.Option.{slice_get_within}
+use Rattle.std.proofs.lemmas.Option.{slice_get_within, same_Some}
 use Rattle.indexmap.specs.IndexMap.{get}
 use Rattle.cdl_tree.specs.declared.class.FileTree.{FileTree}
 use Rattle.cdl_classes.specs.declared.gather.Classes.{Classes}
@@ -24,11 +24,11 @@ use Rattle.cdl_classes.specs.inner.Gathered.{IsGathered}
 use Rattle.cdl_classes.specs.inner.Scopes.{SoughtAt, Passes, next_for}
 use Rattle.cdl_classes.specs.declared.scopes.Outwards.{Outwards}
 use Rattle.cdl_classes.proofs.Entries.{at}
-use Rattle.cdl_classes.proofs.Lists.{some_same, get_at, get_left, get_last, get_pushed}
+use Rattle.cdl_classes.proofs.Lists.{get_at, get_left, get_last, get_pushed}
 use Rattle.cdl_classes.proofs.Fronts.{same_bytes, front_trans}
 use Rattle.cdl_classes.proofs.Standing.{not_library, unnumbered}
 use Rattle.cdl_classes.proofs.Needs.{child_fresh, up}
-use Rattle.cdl_classes.proofs.Finding.{inside_is, seek_further, outer_is, neither, take_front}
+use Rattle.cdl_classes.proofs.Finding.{inside_is, seek_further, outer_is, take_front}
 
 -- ---- maps
 
@@ -67,7 +67,7 @@ none_is (Some n) h = absurd (false≢true (sym h))
 pub only_entry : (es : List (Vec ℕ Global × ℕ)) (k : Vec ℕ Global) (v : ℕ) (x : List ℕ) → length es ≡ 1 → slice_get es 0 ≡ Some (k, v) → bytes_eq x k.items ≡ false → lookup (at x) es ≡ None
 only_entry [] k v x size first miss = absurd (omega arith)
 only_entry (e ∷ []) k v x size first miss =
-    let same : e.0 ≡ k = ap (λ (p : Vec ℕ Global × ℕ). p.0) (some_same e (k, v) first) in
+    let same : e.0 ≡ k = ap (λ (p : Vec ℕ Global × ℕ). p.0) (same_Some e (k, v) first) in
     rw (is_eq-slice_cmp x (e.0).items, ap (λ (z : Vec ℕ Global). bytes_eq x z.items) same ∙ miss) refl
 only_entry (e ∷ f ∷ es) k v x size first miss = absurd (omega (arith, size))
 
@@ -79,7 +79,7 @@ has_none ds Value q x t c i = rw (t, c, i) refl
 
 pub free_front : (q : Full) (k : ℕ) → in_library q ≡ false → in_library (take k q) ≡ false
 free_front q k h =
-    let fs = neither (is_front cdl_name q) (is_front modelica_name q) h in
+    let fs = or_parts (is_front cdl_name q) (is_front modelica_name q) h in
     let c : is_front cdl_name (take k q) ≡ false = false_from_ne_true _ (λ e. false≢true (sym fs.0 ∙ front_trans cdl_name (take k q) q e (take_front q k))) in
     let m : is_front modelica_name (take k q) ≡ false = false_from_ne_true _ (λ e. false≢true (sym fs.1 ∙ front_trans modelica_name (take k q) q e (take_front q k))) in
     rw (c, m) refl
@@ -170,7 +170,7 @@ module _ (files : List FileTree) (all : Classes) (h : IsGathered files all libra
       ]
 
   top_flag : (q : Full) (known : List Bool) (parent : ℕ) → slice_get h.names.paths 0 ≡ Some q → length known ≡ 0 → unwrap_or (slice_get known parent) false ≡ in_library q
-  top_flag q [] parent at size = sym (ap in_library (some_same q [] (sym at ∙ h.names.numbers.top)))
+  top_flag q [] parent at size = sym (ap in_library (same_Some q [] (sym at ∙ h.names.numbers.top)))
   top_flag q (b ∷ known) parent at size = absurd (omega arith)
 
   deeper : (n : ℕ) (node : Node) (q : Full) (known : List Bool) → slice_get all.nodes.items n ≡ Some node → slice_get h.names.paths n ≡ Some q → length known ≡ n
@@ -189,13 +189,13 @@ module _ (files : List FileTree) (all : Classes) (h : IsGathered files all libra
   flag_is n node q known a at size before =
       elim (eqb_tells n all.cdl) [
         | inl hit ↦
-            let is : q ≡ cdl_name = some_same q cdl_name (sym at ∙ ap (λ i. slice_get h.names.paths i) hit.1 ∙ h.cdl) in
+            let is : q ≡ cdl_name = same_Some q cdl_name (sym at ∙ ap (λ i. slice_get h.names.paths i) hit.1 ∙ h.cdl) in
             rw hit.0 (sym (ap in_library is))
         | inr c ↦
             rw c.0
             (elim (eqb_tells n all.modelica) [
               | inl hit ↦
-                  let is : q ≡ modelica_name = some_same q modelica_name (sym at ∙ ap (λ i. slice_get h.names.paths i) hit.1 ∙ h.modelica) in
+                  let is : q ≡ modelica_name = same_Some q modelica_name (sym at ∙ ap (λ i. slice_get h.names.paths i) hit.1 ∙ h.modelica) in
                   rw hit.0 (sym (ap in_library is))
               | inr m ↦ rw m.0 (deeper n node q known a at size before c.1 m.1)
             ])

@@ -1,8 +1,8 @@
+use Rattle.std.proofs.lemmas.Option.{same_Some}
 use Rattle.std.proofs.Common.{◌≡◌, ◌∙◌, ◌∷◌, [], map, sym, ap}
 use Rattle.cdl_tree.specs.declared.name.Ident.{Ident}
 use Rattle.cdl_tree.specs.Parts.{class_name, items_of}
 use Rattle.cdl_classes.specs.Rules.{Named, place, constant_named}
-use Rattle.cdl_classes.proofs.Lists.{some_same}
 use Rattle.cdl_classes.proofs.TwiceClasses.{compose, one_step, step_as, name_is, named_package, named_block, named_enumeration}
 use Rattle.std.proofs.lemmas.Result.{IfOk-weaker}
 use Rattle.cdl_classes.proofs.duplicates.mark_class.Goals as goal
@@ -10,7 +10,7 @@ use Rattle.cdl_classes.proofs.duplicates.mark_class.Goals as goal
 pub returns-in-Package : goal.returns-in-Package
 returns-in-Package c = IfOk-weaker c.mark_constants.result _ _ (λ r more paths ns d marks shown.
     let tree = c.tree_of-tree.result.now in
-    let same : d.tree ≡ tree = some_same d.tree tree (sym shown.tree ∙ c.tree_of-tree.ensures) in
+    let same : d.tree ≡ tree = same_Some d.tree tree (sym shown.tree ∙ c.tree_of-tree.ensures) in
     let m = c.in_ok-first.ensures paths ns d.outer marks shown.outer in
     let name : c.bytes.result.now ≡ (class_name d.tree).text = c.bytes.ensures ∙ ap (λ (i : Ident). i.text) (c.name-name.ensures ∙ ap class_name (sym same)) in
     let at : c.place_of.result ≡ place d.file (class_name d.tree) = c.place_of.ensures ∙ ap (place c.args.class.now.file) (c.name-name.ensures ∙ ap class_name (sym same)) ∙ ap (λ f. place f (class_name d.tree)) shown.file in
@@ -24,7 +24,7 @@ returns-in-Package c = IfOk-weaker c.mark_constants.result _ _ (λ r more paths 
 pub returns-in-Block : goal.returns-in-Block
 returns-in-Block c = λ paths ns d marks shown.
     let tree = c.tree_of-tree.result.now in
-    let same : d.tree ≡ tree = some_same d.tree tree (sym shown.tree ∙ c.tree_of-tree.ensures) in
+    let same : d.tree ≡ tree = same_Some d.tree tree (sym shown.tree ∙ c.tree_of-tree.ensures) in
     let m = c.in_ok-first.ensures paths ns d.outer marks shown.outer in
     let name : c.bytes.result.now ≡ (class_name d.tree).text = c.bytes.ensures ∙ ap (λ (i : Ident). i.text) (c.name-name.ensures ∙ ap class_name (sym same)) in
     let at : c.place_of.result ≡ place d.file (class_name d.tree) = c.place_of.ensures ∙ ap (place c.args.class.now.file) (c.name-name.ensures ∙ ap class_name (sym same)) ∙ ap (λ f. place f (class_name d.tree)) shown.file in
@@ -35,7 +35,7 @@ returns-in-Block c = λ paths ns d marks shown.
 pub returns-in-Enumeration : goal.returns-in-Enumeration
 returns-in-Enumeration c = λ paths ns d marks shown.
     let tree = c.tree_of-tree.result.now in
-    let same : d.tree ≡ tree = some_same d.tree tree (sym shown.tree ∙ c.tree_of-tree.ensures) in
+    let same : d.tree ≡ tree = same_Some d.tree tree (sym shown.tree ∙ c.tree_of-tree.ensures) in
     let m = c.in_ok-first.ensures paths ns d.outer marks shown.outer in
     let name : c.bytes.result.now ≡ (class_name d.tree).text = c.bytes.ensures ∙ ap (λ (i : Ident). i.text) (c.name-name.ensures ∙ ap class_name (sym same)) in
     let at : c.place_of.result ≡ place d.file (class_name d.tree) = c.place_of.ensures ∙ ap (place c.args.class.now.file) (c.name-name.ensures ∙ ap class_name (sym same)) ∙ ap (λ f. place f (class_name d.tree)) shown.file in

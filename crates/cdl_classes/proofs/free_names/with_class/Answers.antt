@@ -1,3 +1,4 @@
+use Rattle.std.proofs.lemmas.Option.{same_Some}
 use Rattle.std.proofs.Common.{◌≡◌, ◌∙◌, List, Bool, true, sym, ap}
 use Rattle.cdl_source.specs.declared.place.Place.{Place}
 use Rattle.cdl_tree.specs.declared.name.Ident.{Ident}
@@ -6,7 +7,6 @@ use Rattle.cdl_tree.specs.Parts.{class_name, items_of}
 use Rattle.cdl_classes.specs.Classes.{declared, full}
 use Rattle.cdl_classes.specs.Places.{least}
 use Rattle.cdl_classes.specs.Rules.{place, is_taken, if_broken, taken_constants}
-use Rattle.cdl_classes.proofs.Lists.{some_same}
 use Rattle.cdl_classes.proofs.TakenClasses.{taken_package_class}
 use Rattle.cdl_classes.proofs.free_names.with_class.Goals as goal
 
@@ -14,7 +14,7 @@ pub returns-in-Package : goal.returns-in-Package
 returns-in-Package c = λ h d library shown.
     let ds = declared c.args.files.now in
     let tree = c.tree_of-tree.result.now in
-    let same : d.tree ≡ tree = some_same d.tree tree (sym shown.tree ∙ c.tree_of-tree.ensures) in
+    let same : d.tree ≡ tree = same_Some d.tree tree (sym shown.tree ∙ c.tree_of-tree.ensures) in
     let at : c.place_of-place.result ≡ place d.file (class_name tree) =
     c.place_of-place.ensures ∙ ap (place c.args.class.now.file) c.name-name.ensures ∙ ap (λ f. place f (class_name tree)) shown.file in
     let taken : c.is_taken.result ≡ is_taken ds true d.outer (class_name tree).text =

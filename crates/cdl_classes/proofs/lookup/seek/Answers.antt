@@ -1,7 +1,7 @@
 use Rattle.std.proofs.Common.{◌≡◌, ◌∙◌, ◌<◌, ◌≤◌, ℕ, [], List, take, length, sym, refl, ap, Some, None, false, arith}
 use Rattle.std.specs.List.{slice_get}
 use Rattle.std.proofs.Math.Seq.{take-length}
-use Rattle.std.proofs.lemmas.Option.{slice_get_read, slice_get_within}
+use Rattle.std.proofs.lemmas.Option.{slice_get_read, slice_get_within, same_Some}
 use Rattle.cdl_tree.specs.declared.class.FileTree.{FileTree}
 use Rattle.cdl_classes.specs.declared.scopes.Outwards.{Outwards}
 use Rattle.cdl_classes.specs.inner.Scopes.{AreOutwards, next_for}
@@ -12,7 +12,6 @@ use Rattle.cdl_classes.specs.declared.lookup.Sought.{Sought}
 use Rattle.cdl_classes.specs.Classes.{Full, declared}
 use Rattle.cdl_classes.specs.Lookup.{has, seek, in_library}
 use Rattle.cdl_classes.specs.inner.Known.{Known}
-use Rattle.cdl_classes.proofs.Lists.{some_same}
 use Rattle.cdl_classes.proofs.Finding.{finds_as, seek_found, none_taken, not_front, take_less, seek_front}
 use Rattle.cdl_classes.proofs.lookup.seek.Goals as goal
 
@@ -70,7 +69,7 @@ loop-scope-preserved c = λ h q at own.
 pub returns-clause-found : goal.returns-clause-found
 returns-clause-found c = λ h q at own.
     let k = c.loop-scope.invariant h q at own in
-    let here : take k.0 q ≡ [] = some_same (take k.0 q) [] (sym k.2 ∙ ap (λ i. slice_get h.gathered.names.paths i) c.loop-scope-test.false ∙ h.gathered.names.numbers.top) in
+    let here : take k.0 q ≡ [] = same_Some (take k.0 q) [] (sym k.2 ∙ ap (λ i. slice_get h.gathered.names.paths i) c.loop-scope-test.false ∙ h.gathered.names.numbers.top) in
     let zero_is : k.0 ≡ 0 = none_taken q k.0 k.1 here in
     finds_as h.gathered.names.paths c.has-2.result _ _ (c.has-2.ensures.found h [] h.gathered.names.numbers.top refl refl)
     (ap (λ j. seek (declared c.args.files.now) c.args.sought q j c.args.part.now) (sym zero_is) ∙ k.3)
