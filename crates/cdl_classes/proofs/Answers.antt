@@ -32,12 +32,12 @@ use Rattle.cdl_classes.proofs.Walk.{then_some}
 -- ---- the members of a class by its sort
 
 no_literals_at : (c : ClassTree-F ClassTree) → sort_at c ≡ sort.Package → literals_at c ≡ []
-no_literals_at (ClassTree-F.Block name items connects span) e = refl
+no_literals_at (ClassTree-F.Block name items statements span) e = refl
 no_literals_at (ClassTree-F.Package name classes constants span) e = refl
 no_literals_at (ClassTree-F.Enumeration name literals span) e = cc
 
 no_items_at : (c : ClassTree-F ClassTree) → sort_at c ≡ sort.Enumeration → layer_items c ≡ []
-no_items_at (ClassTree-F.Block name items connects span) e = cc
+no_items_at (ClassTree-F.Block name items statements span) e = cc
 no_items_at (ClassTree-F.Package name classes constants span) e = cc
 no_items_at (ClassTree-F.Enumeration name literals span) e = refl
 

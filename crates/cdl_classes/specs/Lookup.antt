@@ -71,7 +71,7 @@ abbrev pub inside : List Declared → Full → List ℕ → Option Entity
 inside ds q x = if same_full q cdl_name then Some (in_cdl (x ∷ [])) else (if same_full q modelica_name then Some (in_modelica (x ∷ [])) else stands ds (q ++ x ∷ []))
 
 abbrev pub sort_at : ClassTree-F ClassTree → ClassSort
-sort_at (ClassTree-F.Block name items connects span) = sort.Block
+sort_at (ClassTree-F.Block name items statements span) = sort.Block
 sort_at (ClassTree-F.Package name classes constants span) = sort.Package
 sort_at (ClassTree-F.Enumeration name literals span) = sort.Enumeration
 
