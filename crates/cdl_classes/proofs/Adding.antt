@@ -6,7 +6,7 @@ use Rattle.std.specs.Option.{option_or}
 use Rattle.std.proofs.lemmas.Bool.{cases_Bool, cases_lt}
 use Rattle.std.proofs.lemmas.Bool.Decides.{eqb_tells}
 use Rattle.std.proofs.lemmas.List.{map-append}
-use Rattle.std.proofs.lemmas.Option.{slice_get_within}
+use Rattle.std.proofs.lemmas.Option.{slice_get_within, same_Some}
 use Rattle.indexmap.specs.IndexMap.{get}
 use Rattle.cdl_tree.specs.declared.class.ClassTree.{ClassTree}
 use Rattle.cdl_tree.specs.declared.class.FileTree.{FileTree}
@@ -15,9 +15,9 @@ use Rattle.cdl_classes.specs.declared.gather.Class.{Class}
 use Rattle.cdl_classes.specs.declared.gather.Classes.{Classes}
 use Rattle.cdl_classes.specs.Classes.{Full, Declared, full, same_full, name_of}
 use Rattle.cdl_classes.specs.Lookup.{first_from, first_of, first_named, member_names, cdl_name, modelica_name}
-use Rattle.cdl_classes.specs.Numbered.{Names, Covers, Keeps, Grown, entry}
-use Rattle.cdl_classes.specs.Gathered.{IsShown, IsGathered, AfterAt, tree_at}
-use Rattle.cdl_classes.proofs.Lists.{some_same, get_at, cases_option, zip_length, zip_push}
+use Rattle.cdl_classes.specs.inner.Numbered.{Names, Covers, Keeps, Grown, entry}
+use Rattle.cdl_classes.specs.inner.Gathered.{IsShown, IsGathered, AfterAt, tree_at}
+use Rattle.cdl_classes.proofs.Lists.{get_at, cases_option, zip_length, zip_push}
 use Rattle.cdl_classes.proofs.Fronts.{same_is, same_self}
 use Rattle.cdl_classes.proofs.Firsts.{first_of-push}
 
@@ -65,7 +65,7 @@ module _ (files : List FileTree) (old : Classes) (extra : List Full) (ds : List 
       elim (cases_lt n (length old.nodes.items)) [
         | inl lt ↦
             let before = get_at h.names.paths n (omega (arith, h.names.numbers.size)) in
-            let equal : before.0 ≡ q = some_same _ _ (sym (keeps n before.0 before.1) ∙ e) in
+            let equal : before.0 ≡ q = same_Some _ _ (sym (keeps n before.0 before.1) ∙ e) in
             h.first n q (before.1 ∙ ap (λ r. Some r) equal)
         | inr le ↦
             elim (cases_option (first_of q ds)) [
@@ -96,7 +96,7 @@ module _ (files : List FileTree) (old : Classes) (extra : List Full) (ds : List 
   agree k q e =
       elim (eqb_tells k n) [
         | inl yes_it ↦
-            let equal : q ≡ full d = some_same _ _ (sym e ∙ ap (λ i. slice_get g.names.paths i) yes_it.1 ∙ g.at) in
+            let equal : q ≡ full d = same_Some _ _ (sym e ∙ ap (λ i. slice_get g.names.paths i) yes_it.1 ∙ g.at) in
             yes_it.0 ∙ sym (ap (λ r. same_full r (full d)) equal ∙ same_self (full d))
         | inr other ↦
             elim (cases_Bool (same_full q (full d))) [

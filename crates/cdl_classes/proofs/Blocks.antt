@@ -1,4 +1,5 @@
 -- The declared block of a full name.
+use Rattle.std.proofs.lemmas.Option.{same_Some}
 use Rattle.std.proofs.Common.{◌≡◌, ◌∙◌, ℕ, List, Option, Some, None, ap, sym, refl, nat_eq, inl, inr}
 use Rattle.std.specs.List.{slice_get}
 use Rattle.indexmap.specs.IndexMap.{get}
@@ -7,13 +8,13 @@ use Rattle.cdl_tree.specs.declared.class.FileTree.{FileTree}
 use Rattle.cdl_classes.specs.declared.gather.Class.{Class}
 use Rattle.cdl_classes.specs.declared.gather.Classes.{Classes}
 use Rattle.cdl_classes.specs.declared.found.ClassId.{ClassId}
-use Rattle.cdl_classes.specs.declared.lookup.Sort.{Sort}
+use Rattle.cdl_classes.specs.declared.lookup.ClassSort.{ClassSort}
 use Rattle.cdl_classes.specs.Classes.{Full, declared}
 use Rattle.cdl_classes.specs.Lookup.{first_of, sort_of}
-use Rattle.cdl_classes.specs.Gathered.{tree_at}
-use Rattle.cdl_classes.specs.Known.{Known}
+use Rattle.cdl_classes.specs.inner.Gathered.{tree_at}
+use Rattle.cdl_classes.specs.inner.Known.{Known}
 use Rattle.cdl_classes.specs.Table.{block_of, if_block}
-use Rattle.cdl_classes.proofs.Lists.{some_same, cases_option}
+use Rattle.cdl_classes.proofs.Lists.{cases_option}
 use Rattle.cdl_classes.proofs.Adding.{named}
 use Rattle.cdl_classes.proofs.Standing.{shown_at, unshown, first_is}
 
@@ -37,10 +38,10 @@ module _ (files now : List FileTree) (all : Classes) (h : Known files all) (e : 
   pub no_place : (n i : ℕ) (q : Full) → slice_get h.gathered.names.paths n ≡ Some q → get nat_eq all.by_name n ≡ Some i → slice_get all.list.items i ≡ None → block_of (declared now) q ≡ None
   no_place n i q at f none = block_as files now e q None (rw (first_is files all h n i q at f, unshown files all h i none) refl)
 
-  pub block_at : (n i : ℕ) (q : Full) (class : Class) (tree : ClassTree) (s : Sort) → slice_get h.gathered.names.paths n ≡ Some q → get nat_eq all.by_name n ≡ Some i
+  pub block_at : (n i : ℕ) (q : Full) (class : Class) (tree : ClassTree) (s : ClassSort) → slice_get h.gathered.names.paths n ≡ Some q → get nat_eq all.by_name n ≡ Some i
       → slice_get all.list.items i ≡ Some class → tree_at files class.file class.top class.steps.items ≡ Some tree → s ≡ sort_of tree → block_of (declared now) q ≡ if_block i s
   block_at n i q class tree s at f c t k =
       let d = shown_at files all h i class c in
-      let same : tree ≡ (d.0).tree = some_same _ _ (sym t ∙ (d.2).tree) in
+      let same : tree ≡ (d.0).tree = same_Some _ _ (sym t ∙ (d.2).tree) in
       let sort : sort_of (d.0).tree ≡ s = sym (k ∙ ap sort_of same) in
       block_as files now e q (if_block i s) (rw (first_is files all h n i q at f, d.1, sort) refl)

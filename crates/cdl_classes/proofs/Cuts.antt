@@ -7,7 +7,7 @@ use Rattle.std.proofs.lemmas.List.{drop_more, take_more, get_or-drop}
 use Rattle.cdl_tree.specs.declared.class.FileTree.{FileTree}
 use Rattle.cdl_classes.specs.declared.gather.Classes.{Classes}
 use Rattle.cdl_classes.specs.Classes.{Full, declared, full, is_front}
-use Rattle.cdl_classes.specs.Gathered.{IsGathered}
+use Rattle.cdl_classes.specs.inner.Gathered.{IsGathered}
 use Rattle.cdl_classes.specs.Lookup.{library}
 use Rattle.cdl_classes.specs.Table.{cut, add_first}
 use Rattle.cdl_classes.proofs.Fronts.{front_append, any_trans}

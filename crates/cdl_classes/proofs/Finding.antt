@@ -1,8 +1,10 @@
 -- What a look-up finds, step by step.
-use Rattle.std.proofs.Common.{◌≡◌, ◌<◌, ◌≤◌, ◌+◌, ℕ, zero, suc, Bool, true, false, List, [], ◌∷◌, ◌++◌, map, take, drop, get_or, length, Option, Some, None, refl, sym, ◌∙◌, ap, subst, arith, inl, inr, drop-cons, add-one, nat_eq, append_assoc, append-nil, ◌||◌, ◌-◌, length-drop}
+use Rattle.std.proofs.lemmas.Option.{same_Some}
+use Rattle.std.proofs.Common.{◌≡◌, ◌<◌, ◌≤◌, ◌+◌, ℕ, zero, suc, true, false, List, [], ◌∷◌, ◌++◌, map, take, drop, get_or, length, Option, Some, None, refl, sym, ◌∙◌, ap, subst, arith, inl, inr, drop-cons, add-one, nat_eq, append_assoc, append-nil, ◌-◌, length-drop}
 use Rattle.std.specs.Prelude.{option_map}
 use Rattle.std.specs.List.{slice_get, list_any}
-use Rattle.std.proofs.lemmas.Bool.{cases_Bool, false≢true, false_from_ne_true}
+use Rattle.std.specs.Option.{option_or}
+use Rattle.std.proofs.lemmas.Bool.{cases_Bool, false≢true, false_from_ne_true, and_from, or_parts}
 use Rattle.std.proofs.lemmas.List.{same_from_push, take_more}
 use Rattle.indexmap.specs.IndexMap.{get}
 use Rattle.cdl_tree.specs.declared.class.FileTree.{FileTree}
@@ -13,10 +15,10 @@ use Rattle.cdl_classes.specs.declared.lookup.Sought.TheVariants.{Class as ClassN
 use Rattle.cdl_classes.specs.declared.lookup.Standing.{Standing}
 use Rattle.cdl_classes.specs.Classes.{Full, Declared, declared, full, same_full, is_front, text_of}
 use Rattle.cdl_classes.specs.Lookup.{Entity, a_class, a_package, in_cdl, in_modelica, first_from, cdl_name, modelica_name, in_library, IsFree, stands, inside, type_at, has, seek, enters, leads}
-use Rattle.cdl_classes.specs.Known.{Known, Finds, IsOwn}
-use Rattle.cdl_classes.proofs.Lists.{some_same, cases_option}
+use Rattle.cdl_classes.specs.inner.Known.{Known, Finds, IsOwn}
+use Rattle.cdl_classes.proofs.Lists.{cases_option}
 use Rattle.cdl_classes.proofs.Walk.{take_whole}
-use Rattle.cdl_classes.proofs.Fronts.{same_is, and_true, bytes_same}
+use Rattle.cdl_classes.proofs.Fronts.{same_is, bytes_same}
 
 pub finds_as : (paths : List Full) (found : Option Standing) (e f : Option Entity) → Finds paths found e → e ≡ f → Finds paths found f
 finds_as paths found e f h same = let P : Option Entity → Type 0 = λ x. Finds paths found x in subst P same h
@@ -32,7 +34,7 @@ module _ (files : List FileTree) (all : Classes) (h : Known files all) where
   stands_package n q at e = rw (sym (h.gathered.first n q at) ∙ e, h.gathered.names.covers.only n q at) refl
 
   pub top_is : (q : Full) → slice_get h.gathered.names.paths 0 ≡ Some q → q ≡ []
-  top_is q at = some_same q [] (sym at ∙ h.gathered.names.numbers.top)
+  top_is q at = same_Some q [] (sym at ∙ h.gathered.names.numbers.top)
 
   -- no scope but the top has types
   pub no_type : (n : ℕ) (q : Full) (x : List ℕ) → slice_get h.gathered.names.paths n ≡ Some q → 0 < n → type_at q x ≡ None
@@ -40,10 +42,10 @@ module _ (files : List FileTree) (all : Classes) (h : Known files all) where
   no_type n (y ∷ q) x at l = refl
 
   pub cdl_is : (q : Full) → slice_get h.gathered.names.paths all.cdl ≡ Some q → q ≡ cdl_name
-  cdl_is q at = some_same q cdl_name (sym at ∙ h.gathered.cdl)
+  cdl_is q at = same_Some q cdl_name (sym at ∙ h.gathered.cdl)
 
   pub modelica_is : (q : Full) → slice_get h.gathered.names.paths all.modelica ≡ Some q → q ≡ modelica_name
-  modelica_is q at = some_same q modelica_name (sym at ∙ h.gathered.modelica)
+  modelica_is q at = same_Some q modelica_name (sym at ∙ h.gathered.modelica)
 
   pub not_cdl : (n : ℕ) (q : Full) → slice_get h.gathered.names.paths n ≡ Some q → (n ≡ all.cdl → ⊥) → same_full q cdl_name ≡ false
   not_cdl n q at apart = false_from_ne_true _ (λ e. apart (h.gathered.names.numbers.once n all.cdl q at (h.gathered.cdl ∙ ap (λ r. Some r) (sym (same_is q cdl_name e)))))
@@ -63,14 +65,10 @@ leads_modelica : (ds : List Declared) (sought : Sought) (q rest : Full) → lead
 leads_modelica ds sought q [] = ap (λ r. Some (in_modelica r)) (sym (append-nil q))
 leads_modelica ds sought q (x ∷ rest) = leads_modelica ds sought (q ++ x ∷ []) rest ∙ ap (λ r. Some (in_modelica r)) (append_assoc q (x ∷ []) rest)
 
-pub neither : (a b : Bool) → (a || b) ≡ false → (a ≡ false) × (b ≡ false)
-neither true b h = absurd (false≢true (sym h))
-neither false b h = (refl, h)
-
 none_declared : (i : ℕ) (ds : List Declared) (q : Full) → IsFree ds → in_library q ≡ true → first_from i q ds ≡ None
 none_declared i [] q f l = refl
 none_declared i (d ∷ ds) q f l =
-    let fs = neither (in_library (full d)) (list_any (λ (x : Declared). in_library (full x)) ds) f in
+    let fs = or_parts (in_library (full d)) (list_any (λ (x : Declared). in_library (full x)) ds) f in
     elim (cases_Bool (same_full q (full d))) [
       | inl hit ↦ absurd (false≢true (sym fs.0 ∙ ap in_library (sym (same_is q (full d) hit)) ∙ l))
       | inr miss ↦ rw miss (none_declared (i + 1) ds q fs.1 l)
@@ -87,7 +85,7 @@ modelica_leads ds ClassNames (x ∷ rest) f l = leads_modelica ds ClassNames (x 
 modelica_leads ds Value (x ∷ rest) f l = rw (none_declared 0 ds modelica_name f refl) (leads_modelica ds Value (x ∷ []) rest)
 
 pub package_is : (paths : List Full) (n : ℕ) (q : Full) (e : Entity) → slice_get paths n ≡ Some q → option_map a_package (slice_get paths n) ≡ Some e → e ≡ a_package q
-package_is paths n q e at m = some_same e (a_package q) (sym m ∙ ap (option_map a_package) at)
+package_is paths n q e at m = same_Some e (a_package q) (sym m ∙ ap (option_map a_package) at)
 
 pub package_at : (paths : List Full) (n : ℕ) (e : Entity) → option_map a_package (slice_get paths n) ≡ Some e → (q : Full) × (slice_get paths n ≡ Some q) × (e ≡ a_package q)
 package_at paths n e m =
@@ -128,10 +126,10 @@ none_taken q zero l e = refl
 none_taken [] (suc k) l e = absurd (omega arith)
 none_taken (x ∷ q) (suc k) l e = cc
 
-take_front : (q : Full) (k : ℕ) → is_front (take k q) q ≡ true
+pub take_front : (q : Full) (k : ℕ) → is_front (take k q) q ≡ true
 take_front q zero = refl
 take_front [] (suc k) = refl
-take_front (x ∷ q) (suc k) = and_true _ (is_front (take k q) q) (bytes_same x x refl) (take_front q k)
+take_front (x ∷ q) (suc k) = and_from _ (is_front (take k q) q) (bytes_same x x refl) (take_front q k)
 
 front_taken : (p q : Full) (k : ℕ) → take k q ≡ p → is_front p q ≡ true
 front_taken p q k e =
@@ -140,10 +138,22 @@ front_taken p q k e =
 
 pub not_front : (q : Full) (k : ℕ) → in_library q ≡ false → (same_full (take k q) cdl_name ≡ false) × (same_full (take k q) modelica_name ≡ false)
 not_front q k h =
-    let fs = neither (is_front cdl_name q) (is_front modelica_name q) h in (
+    let fs = or_parts (is_front cdl_name q) (is_front modelica_name q) h in (
       false_from_ne_true _ (λ e. false≢true (sym fs.0 ∙ front_taken cdl_name q k (same_is (take k q) cdl_name e))),
       false_from_ne_true _ (λ e. false≢true (sym fs.1 ∙ front_taken modelica_name q k (same_is (take k q) modelica_name e))),
     )
 
 pub taken_rest : (rest : List Ident) (i : ℕ) → take (length rest - i) (drop i rest) ≡ drop i rest
 taken_rest rest i = take_whole (length rest - i) (drop i rest) (omega (arith, length-drop i rest))
+
+pub take_less : (q : Full) (j k : ℕ) → j ≤ k → take j (take k q) ≡ take j q
+take_less q zero k l = refl
+take_less q (suc j) zero l = absurd (omega arith)
+take_less [] (suc j) (suc k) l = refl
+take_less (x ∷ q) (suc j) (suc k) l = ap (λ r. x ∷ r) (take_less q j k (omega arith))
+
+-- the scopes of a front of a full name are scopes of the name
+pub seek_front : (ds : List Declared) (sought : Sought) (q : Full) (x : List ℕ) (j k : ℕ) → j ≤ k → seek ds sought (take k q) j x ≡ seek ds sought q j x
+seek_front ds sought q x zero k l = refl
+seek_front ds sought q x (suc j) k l =
+    ap (λ r. option_or (has ds sought r x) (seek ds sought (take k q) j x)) (take_less q (suc j) k l) ∙ ap (option_or (has ds sought (take (suc j) q) x)) (seek_front ds sought q x j k (omega arith))

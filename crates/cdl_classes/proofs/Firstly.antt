@@ -1,14 +1,15 @@
 -- The first of the places at which a rule is broken.
-use Rattle.std.proofs.Common.{◌≡◌, ◌⊎◌, ◌||◌, not, ◌&&◌, Bool, true, false, List, [], ◌∷◌, ◌++◌, Some, None, refl, sym, ◌∙◌, ap, subst, inl, inr}
+use Rattle.std.proofs.lemmas.Option.{same_Some}
+use Rattle.std.proofs.Common.{◌≡◌, ◌⊎◌, ◌||◌, not, ◌&&◌, Bool, true, false, List, [], ◌∷◌, ◌++◌, Option, Some, None, refl, sym, ◌∙◌, ap, subst, inl, inr}
 use Rattle.std.proofs.lemmas.Bool.{cases_Bool}
 use Rattle.cdl_source.specs.declared.place.Place.{Place}
 use Rattle.cdl_tree.specs.Parts.{class_name}
-use Rattle.cdl_classes.specs.Classes.{Declared, full}
+use Rattle.cdl_tree.specs.declared.class.FileTree.{FileTree}
+use Rattle.cdl_classes.specs.Classes.{Declared, declared, full}
 use Rattle.cdl_classes.specs.Lookup.{in_library, IsFree, sort_of}
 use Rattle.cdl_classes.specs.Places.{not_after, soonest, least, In}
 use Rattle.cdl_classes.specs.Rules.{place, is_package, is_needed, is_type, is_taken, if_broken, taken_in, taken_of, broken_11}
 use Rattle.cdl_classes.specs.Verdict.{IsFirst}
-use Rattle.cdl_classes.proofs.Lists.{some_same}
 use Rattle.cdl_classes.proofs.MarkLaws.{self, total, trans}
 
 -- the first of these places where one is known
@@ -37,8 +38,8 @@ is_either a b p h =
 
 first_with : (known : Place) (places : List Place) (p : Place) → least (Some known) places ≡ Some p → FirstWith known places p
 first_with known [] p e = record {
-  is_one = inl (sym (some_same known p e));
-  before = let P : Place → Type 0 = λ x. not_after x known ≡ true in subst P (some_same known p e) (self known);
+  is_one = inl (sym (same_Some known p e));
+  before = let P : Place → Type 0 = λ x. not_after x known ≡ true in subst P (same_Some known p e) (self known);
   first = λ q i. absurd i;
 }
 first_with known (r ∷ places) p e =
@@ -109,3 +110,9 @@ free_from whole (d ∷ ds) e =
 
 pub free : (ds : List Declared) → broken_11 ds ≡ [] → IsFree ds
 free ds e = free_from ds ds e
+
+pub first_as : (broken : List Declared → List Place) (files now : List FileTree) → now ≡ files → (r : Option Place) (p : Place) → r ≡ least None (broken (declared now)) → r ≡ Some p → IsFirst (broken (declared files)) p
+first_as broken files now e r p l is = first_of_all (broken (declared files)) p (ap (λ (fs : List FileTree). least None (broken (declared fs))) (sym e) ∙ sym l ∙ is)
+
+pub none_as : (broken : List Declared → List Place) (files now : List FileTree) → now ≡ files → (r : Option Place) → r ≡ least None (broken (declared now)) → r ≡ None → broken (declared files) ≡ []
+none_as broken files now e r l is = none_of_all (broken (declared files)) (ap (λ (fs : List FileTree). least None (broken (declared fs))) (sym e) ∙ sym l ∙ is)

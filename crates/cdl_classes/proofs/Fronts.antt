@@ -1,30 +1,10 @@
 -- Fronts of full names.
-use Rattle.std.proofs.Common.{◌≡◌, ◌⊎◌, ◌||◌, ◌&&◌, ℕ, Bool, true, false, List, [], ◌∷◌, ◌++◌, refl, ◌∙◌, ap, inl, inr}
+use Rattle.std.proofs.Common.{◌≡◌, ◌⊎◌, ℕ, Bool, true, false, List, [], ◌∷◌, ◌++◌, refl, ◌∙◌, ap, inl, inr}
 use Rattle.std.specs.List.{list_any}
 use Rattle.std.specs.Str.{bytes_eq}
-use Rattle.std.proofs.lemmas.Bool.{false≢true}
+use Rattle.std.proofs.lemmas.Bool.{false≢true, and_from, and_parts, or_cases, or_left, or_right}
 use Rattle.std.proofs.lemmas.Slice.Eq.{bytes_eq-Decides}
 use Rattle.cdl_classes.specs.Classes.{Full, is_front, same_full}
-
-pub both : (a b : Bool) → (a && b) ≡ true → (a ≡ true) × (b ≡ true)
-both true b h = (refl, h)
-both false b h = absurd (false≢true h)
-
-pub and_true : (a b : Bool) → a ≡ true → b ≡ true → (a && b) ≡ true
-and_true true b h i = i
-and_true false b h i = absurd (false≢true h)
-
-pub either : (a b : Bool) → (a || b) ≡ true → (a ≡ true) ⊎ (b ≡ true)
-either true b h = inl refl
-either false b h = inr h
-
-pub or_left : (a b : Bool) → a ≡ true → (a || b) ≡ true
-or_left true b h = refl
-or_left false b h = absurd (false≢true h)
-
-pub or_right : (a b : Bool) → b ≡ true → (a || b) ≡ true
-or_right true b h = refl
-or_right false b h = h
 
 pub same_bytes : (x y : List ℕ) → bytes_eq x y ≡ true → x ≡ y
 same_bytes x y h = (bytes_eq-Decides x y).0 h
@@ -34,29 +14,29 @@ bytes_same x y h = (bytes_eq-Decides x y).1 h
 
 pub front_self : (q : Full) → is_front q q ≡ true
 front_self [] = refl
-front_self (x ∷ q) = and_true _ _ (bytes_same x x refl) (front_self q)
+front_self (x ∷ q) = and_from _ _ (bytes_same x x refl) (front_self q)
 
 pub front_trans : (p q r : Full) → is_front p q ≡ true → is_front q r ≡ true → is_front p r ≡ true
 front_trans [] q r h i = refl
 front_trans (x ∷ p) [] r h i = absurd (false≢true h)
 front_trans (x ∷ p) (y ∷ q) [] h i = absurd (false≢true i)
 front_trans (x ∷ p) (y ∷ q) (z ∷ r) h i =
-    let a = both _ _ h in
-    let b = both _ _ i in
-    and_true _ _ (bytes_same x z (same_bytes x y a.0 ∙ same_bytes y z b.0)) (front_trans p q r a.1 b.1)
+    let a = and_parts _ _ h in
+    let b = and_parts _ _ i in
+    and_from _ _ (bytes_same x z (same_bytes x y a.0 ∙ same_bytes y z b.0)) (front_trans p q r a.1 b.1)
 
 pub front_append : (p q : Full) → is_front p (p ++ q) ≡ true
 front_append [] q = refl
-front_append (x ∷ p) q = and_true _ _ (bytes_same x x refl) (front_append p q)
+front_append (x ∷ p) q = and_from _ _ (bytes_same x x refl) (front_append p q)
 
 pub front_push : (p q : Full) (x : List ℕ) → is_front p (q ++ x ∷ []) ≡ true → (is_front p q ≡ true) ⊎ (p ≡ q ++ x ∷ [])
 front_push [] q x h = inl refl
-front_push (y ∷ []) [] x h = inr (ap (λ z. z ∷ []) (same_bytes y x (both _ _ h).0))
-front_push (y ∷ z ∷ p) [] x h = absurd (false≢true (both _ _ h).1)
+front_push (y ∷ []) [] x h = inr (ap (λ z. z ∷ []) (same_bytes y x (and_parts _ _ h).0))
+front_push (y ∷ z ∷ p) [] x h = absurd (false≢true (and_parts _ _ h).1)
 front_push (y ∷ p) (z ∷ q) x h =
-    let a = both _ _ h in
+    let a = and_parts _ _ h in
     elim (front_push p q x a.1) [
-      | inl f ↦ inl (and_true _ _ a.0 f)
+      | inl f ↦ inl (and_from _ _ a.0 f)
       | inr e ↦ inr (cc (same_bytes y z a.0, e))
     ]
 
@@ -65,18 +45,18 @@ same_is [] [] h = refl
 same_is [] (y ∷ q) h = absurd (false≢true h)
 same_is (x ∷ p) [] h = absurd (false≢true h)
 same_is (x ∷ p) (y ∷ q) h =
-    let a = both _ _ h in
+    let a = and_parts _ _ h in
     cc (same_bytes x y a.0, same_is p q a.1)
 
 pub same_self : (q : Full) → same_full q q ≡ true
 same_self [] = refl
-same_self (x ∷ q) = and_true _ _ (bytes_same x x refl) (same_self q)
+same_self (x ∷ q) = and_from _ _ (bytes_same x x refl) (same_self q)
 
 -- what stands at the front of one of these
 pub any_trans : (p q : Full) (whole : List Full) → is_front p q ≡ true → list_any (is_front q) whole ≡ true → list_any (is_front p) whole ≡ true
 any_trans p q [] h i = i
 any_trans p q (w ∷ whole) h i =
-    elim (either _ _ i) [
+    elim (or_cases _ _ i) [
       | inl here ↦ or_left _ _ (front_trans p q w h here)
       | inr later ↦ or_right _ _ (any_trans p q whole h later)
     ]
@@ -84,7 +64,7 @@ any_trans p q (w ∷ whole) h i =
 pub any_left : {X : Type 0} (t : X → Bool) (xs ys : List X) → list_any t xs ≡ true → list_any t (xs ++ ys) ≡ true
 any_left t [] ys h = absurd (false≢true h)
 any_left t (x ∷ xs) ys h =
-    elim (either (t x) (list_any t xs) h) [
+    elim (or_cases (t x) (list_any t xs) h) [
       | inl here ↦ or_left (t x) (list_any t (xs ++ ys)) here
       | inr later ↦ or_right (t x) (list_any t (xs ++ ys)) (any_left t xs ys later)
     ]
@@ -96,7 +76,7 @@ any_right t (x ∷ xs) ys h = or_right (t x) (list_any t (xs ++ ys)) (any_right 
 pub any_split : {X : Type 0} (t : X → Bool) (xs ys : List X) → list_any t (xs ++ ys) ≡ true → (list_any t xs ≡ true) ⊎ (list_any t ys ≡ true)
 any_split t [] ys h = inr h
 any_split t (x ∷ xs) ys h =
-    elim (either (t x) (list_any t (xs ++ ys)) h) [
+    elim (or_cases (t x) (list_any t (xs ++ ys)) h) [
       | inl here ↦ inl (or_left (t x) (list_any t xs) here)
       | inr later ↦
           elim (any_split t xs ys later) [
@@ -107,7 +87,7 @@ any_split t (x ∷ xs) ys h =
 
 pub any_one : {X : Type 0} (t : X → Bool) (x : X) → list_any t (x ∷ []) ≡ true → t x ≡ true
 any_one t x h =
-    elim (either (t x) false h) [
+    elim (or_cases (t x) false h) [
       | inl here ↦ here
       | inr none ↦ absurd (false≢true none)
     ]

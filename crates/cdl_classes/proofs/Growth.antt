@@ -1,11 +1,12 @@
 -- The names after one more.
+use Rattle.std.proofs.lemmas.Bool.{or_left}
 use Rattle.std.proofs.Common.{◌≡◌, ℕ, true, List, [], ◌∷◌, ◌++◌, length, Some, sym, ◌∙◌, ap, inl, inr}
 use Rattle.std.specs.List.{slice_get, list_any}
 use Rattle.cdl_classes.specs.declared.names.Node.{Node}
 use Rattle.cdl_classes.specs.Classes.{Full, is_front}
-use Rattle.cdl_classes.specs.Numbered.{Numbers, Names, Grown, child}
+use Rattle.cdl_classes.specs.inner.Numbered.{Numbers, Names, Grown, child}
 use Rattle.cdl_classes.proofs.Lists.{get_left, get_last, get_pushed}
-use Rattle.cdl_classes.proofs.Fronts.{or_left, front_self, front_push, any_trans, any_left, any_right, any_split, any_one}
+use Rattle.cdl_classes.proofs.Fronts.{front_self, front_push, any_trans, any_left, any_right, any_split, any_one}
 
 -- a name that was there
 pub there : (nodes : List Node) (whole : List Full) (h : Names nodes whole) (node : Node) (scope m : ℕ) (q : Full) (x : List ℕ)

@@ -1,4 +1,5 @@
 -- Items of the classes in turn.
+use Rattle.std.proofs.lemmas.Option.{same_Some}
 use Rattle.std.proofs.Common.{◌≡◌, ◌≤◌, ◌+◌, ◌&&◌, ℕ, zero, suc, Bool, true, false, List, [], ◌∷◌, ◌++◌, drop, length, Option, Some, None, refl, sym, ◌∙◌, ap, arith, inl, inr, codes}
 use Rattle.std.specs.Prelude.{option_and_then, option_map, if◌then◌else◌}
 use Rattle.std.specs.List.{slice_get}
@@ -19,7 +20,7 @@ use Rattle.cdl_classes.specs.Lookup.{Entity, a_class, a_package, in_cdl, in_mode
 use Rattle.cdl_classes.specs.Found.{joined, connector_named, connector_at, or_kind, modelica_found, found_of}
 use Rattle.cdl_classes.specs.Places.{least, sooner}
 use Rattle.cdl_classes.specs.Rules.{places_in, places_from, IsKnown}
-use Rattle.cdl_classes.proofs.Lists.{some_same, cases_option}
+use Rattle.cdl_classes.proofs.Lists.{cases_option}
 use Rattle.cdl_classes.proofs.Meaning.{Valid, yields_meaning}
 
 pub least-append : (first : Option Place) (ps qs : List Place) → least first (ps ++ qs) ≡ least (least first ps) qs
@@ -28,21 +29,21 @@ least-append first (p ∷ ps) qs = least-append (sooner first p) ps qs
 
 pub drop_at : {X : Type 0} (xs : List X) (i : ℕ) (x : X) → slice_get xs i ≡ Some x → drop i xs ≡ x ∷ drop (i + 1) xs
 drop_at [] i x e = cc
-drop_at (y ∷ xs) zero x e = ap (λ z. z ∷ xs) (some_same y x e)
+drop_at (y ∷ xs) zero x e = ap (λ z. z ∷ xs) (same_Some y x e)
 drop_at (y ∷ xs) (suc i) x e =
     let next : suc (i + 1) ≡ suc i + 1 = omega arith in
     drop_at xs i x e ∙ ap (λ j. x ∷ drop j (y ∷ xs)) next
 
-mapped_some : {A B : Type 0} (f : A → B) (o : Option A) (y : B) → option_map f o ≡ Some y → (x : A) × (o ≡ Some x) × (f x ≡ y)
+pub mapped_some : {A B : Type 0} (f : A → B) (o : Option A) (y : B) → option_map f o ≡ Some y → (x : A) × (o ≡ Some x) × (f x ≡ y)
 mapped_some f None y e = cc
-mapped_some f (Some x) y e = (x, refl, some_same (f x) y e)
+mapped_some f (Some x) y e = (x, refl, same_Some (f x) y e)
 
 pub next_class : (test : ℕ → Item → Bool) (ds : List Declared) (i file : ℕ) (tree : ClassTree) (items : List Item) (first : Option Place)
     → option_map (λ (d : Declared). d.file) (slice_get ds i) ≡ Some file → option_map (λ (d : Declared). d.tree) (slice_get ds i) ≡ Some tree → items ≡ items_of tree
     → least (least first (places_in test i file items)) (places_from test (i + 1) (drop (i + 1) ds)) ≡ least first (places_from test i (drop i ds))
 next_class test ds i file tree items first f t e =
     let d = mapped_some (λ (d : Declared). d.file) (slice_get ds i) file f in
-    let same : (d.0).tree ≡ tree = some_same _ _ (ap (option_map (λ (x : Declared). x.tree)) (sym d.1) ∙ t) in
+    let same : (d.0).tree ≡ tree = same_Some _ _ (ap (option_map (λ (x : Declared). x.tree)) (sym d.1) ∙ t) in
     let listed : items_of (d.0).tree ≡ items = ap items_of same ∙ sym e in
     sym (ap (λ (xs : List Declared). least first (places_from test i xs)) (drop_at ds i d.0 d.1)
     ∙ least-append first (places_in test i (d.0).file (items_of (d.0).tree)) (places_from test (i + 1) (drop (i + 1) ds))

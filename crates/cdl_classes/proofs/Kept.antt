@@ -1,5 +1,5 @@
 -- What the table keeps of a class.
-use Rattle.std.proofs.Common.{◌≡◌, ◌∙◌, ◌<◌, ◌^◌, ℕ, List, length, map, Some, ap, sym, subst, arith}
+use Rattle.std.proofs.Common.{◌≡◌, ◌∙◌, ◌<◌, ◌^◌, ℕ, List, length, length-append, map, Some, ap, sym, subst, arith}
 use Rattle.std.specs.List.{slice_get}
 use Rattle.cdl_tree.specs.declared.class.FileTree.{FileTree}
 use Rattle.cdl_classes.specs.declared.gather.Class.{Class}
@@ -8,10 +8,15 @@ use Rattle.cdl_tree.specs.declared.name.Ident.{Ident}
 use Rattle.cdl_tree.specs.declared.name.Name.{Name}
 use Rattle.cdl_classes.specs.declared.lookup.Sought.{Sought}
 use Rattle.cdl_classes.specs.Classes.{Declared, declared, parts_of, text_of}
-use Rattle.cdl_classes.specs.Lookup.{meaning}
-use Rattle.cdl_classes.specs.Gathered.{IsShown}
-use Rattle.cdl_classes.specs.Known.{Known}
-use Rattle.cdl_classes.specs.Table.{name_count}
+use Rattle.cdl_classes.specs.inner.Gathered.{IsShown}
+use Rattle.cdl_classes.specs.inner.Known.{Known}
+use Rattle.cdl_classes.specs.inner.Kept.{name_count}
+use Rattle.cdl_classes.specs.declared.scopes.Outwards.{Outwards}
+use Rattle.cdl_classes.specs.inner.Scopes.{AreOutwards}
+use Rattle.std.proofs.lemmas.List.{length-map}
+use Rattle.cdl_tree.specs.Parts.{items_of, literals_of}
+use Rattle.cdl_classes.specs.Lookup.{item_name, meaning}
+use Rattle.cdl_classes.proofs.Meaning.{member_counted}
 use Rattle.cdl_classes.proofs.Lists.{zip_length}
 use Rattle.cdl_classes.proofs.Standing.{shown_at}
 
@@ -37,3 +42,14 @@ same_meaning files lent now sought number name parts e f p =
 
 pub few_as : (files now : List FileTree) → now ≡ files → name_count files < 2 ^ 32 → name_count now < 2 ^ 32
 few_as files now e h = let P : List FileTree → Type 0 = λ fs. name_count fs < 2 ^ 32 in subst P (sym e) h
+
+pub outwards_as : (files now : List FileTree) (all : Classes) (os lent : List Outwards) → now ≡ files → lent ≡ os → AreOutwards files all os → AreOutwards now all lent
+outwards_as files now all os lent e f h =
+    let P : List FileTree → Type 0 = λ fs. AreOutwards fs all os in
+    let Q : List Outwards → Type 0 = λ xs. AreOutwards now all xs in
+    subst Q (sym f) (subst P (sym e) h)
+
+-- the items of a class are few
+pub few_items : (files : List FileTree) (i : ℕ) (d : Declared) → name_count files < 2 ^ 32 → slice_get (declared files) i ≡ Some d → length (items_of d.tree) < 2 ^ 32
+few_items files i d few e =
+    omega (arith, few, member_counted (declared files) i d e, length-append (map item_name (items_of d.tree)) (map text_of (literals_of d.tree)), length-map (items_of d.tree) item_name)

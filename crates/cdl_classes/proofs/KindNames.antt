@@ -1,15 +1,15 @@
 -- Kinds are found by their names, which are short and ASCII.
+use Rattle.std.proofs.lemmas.Option.{same_Some}
 use Rattle.std.proofs.Common.{◌≡◌, ◌<◌, ◌≤◌, ◌↔◌, ℕ, true, List, [], ◌∷◌, length, Option, Some, None, refl, sym, ◌∙◌, ap, inl, inr, arith, subst, lit≤, lit<, zero, suc, Bool, ◌&&◌, nat_lt, get_or}
 use Rattle.std.specs.Str.{bytes_eq, IsUtf8}
-use Rattle.std.proofs.lemmas.Bool.{cases_Bool}
+use Rattle.std.proofs.lemmas.Bool.{cases_Bool, and_parts}
 use Rattle.std.proofs.lemmas.Str.{IsUtf8-from_ascii}
 use borrow.Author.Tests.{ltb-true}
 use Rattle.std.proofs.lemmas.Slice.Eq.{bytes_eq-Decides}
 use Rattle.cdl_kinds.specs.declared.kind.Kind.{Kind}
 use Rattle.cdl_kinds.specs.declared.kind.Kind.TheVariants.{LogicalAnd}
 use Rattle.cdl_kinds.specs.Names.{kind_name, kinds, found}
-use Rattle.cdl_classes.proofs.Fronts.{both}
-use Rattle.cdl_classes.proofs.Lists.{cases_option, some_same}
+use Rattle.cdl_classes.proofs.Lists.{cases_option}
 
 first_of_name : (k : Kind) → found (kind_name k) kinds ≡ Some k
 unfolding kinds
@@ -23,8 +23,8 @@ is_ascii (b ∷ bs) = nat_lt b 128 && is_ascii bs
 below_128 : (bs : List ℕ) → is_ascii bs ≡ true → (i : ℕ) → get_or bs i 0 < 128
 unfolding is_ascii
 below_128 [] h i = lit< tt
-below_128 (b ∷ bs) h zero = ltb-true b 128 (both (nat_lt b 128) (is_ascii bs) h).0
-below_128 (b ∷ bs) h (suc i) = below_128 bs (both (nat_lt b 128) (is_ascii bs) h).1 i
+below_128 (b ∷ bs) h zero = ltb-true b 128 (and_parts (nat_lt b 128) (is_ascii bs) h).0
+below_128 (b ∷ bs) h (suc i) = below_128 bs (and_parts (nat_lt b 128) (is_ascii bs) h).1 i
 
 names_ascii : (k : Kind) → is_ascii (kind_name k) ≡ true
 unfolding is_ascii
@@ -42,7 +42,7 @@ has_name : (name : List ℕ) (ks : List Kind) (k : Kind) → found name ks ≡ S
 has_name name [] k e = cc
 has_name name (j ∷ ks) k e =
     elim (cases_Bool (bytes_eq (kind_name j) name)) [
-      | inl hit ↦ ap kind_name (sym (some_same j k (rw hit at e))) ∙ (bytes_eq-Decides (kind_name j) name).0 hit
+      | inl hit ↦ ap kind_name (sym (same_Some j k (rw hit at e))) ∙ (bytes_eq-Decides (kind_name j) name).0 hit
       | inr miss ↦ has_name name ks k (rw miss at e)
     ]
 
@@ -57,7 +57,7 @@ kind_is name r h =
     elim (cases_option (found name kinds)) [
       | inl none ↦
           elim (cases_option r) [
-            | inl both ↦ both ∙ sym none
+            | inl and_parts ↦ and_parts ∙ sym none
             | inr some ↦ absurd (missing name some.0 none ((h some.0).0 some.1))
           ]
       | inr some ↦ (h some.0).1 (has_name name kinds some.0 some.1) ∙ sym some.1

@@ -22,3 +22,7 @@ pub mod MarkLaws
 pub mod TwiceClasses
 pub mod Listing
 pub mod Firstly
+pub mod Passing
+pub mod ItemClasses
+pub mod Answers
+pub mod FirstScope

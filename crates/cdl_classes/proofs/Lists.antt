@@ -1,9 +1,7 @@
 -- Lists: what stands at a place, after a push and after a write.
+use Rattle.std.proofs.lemmas.Option.{same_Some}
 use Rattle.std.proofs.Common.{◌≡◌, ◌≢◌, ◌<◌, ◌⊎◌, ℕ, zero, suc, List, [], ◌∷◌, ◌++◌, length, Option, Some, None, refl, sym, inl, inr, arith, subst}
 use Rattle.std.specs.List.{slice_get, slice_set, AllZip}
-
-pub some_same : {X : Type 0} (x y : X) → Some x ≡ Some y → x ≡ y
-some_same x y e = cc
 
 pub get_left : {X : Type 0} (xs ys : List X) (k : ℕ) (x : X) → slice_get xs k ≡ Some x → slice_get (xs ++ ys) k ≡ Some x
 get_left [] ys k x h = cc
@@ -17,7 +15,7 @@ get_last (z ∷ xs) x zero h = absurd (omega arith)
 get_last (z ∷ xs) x (suc k) h = get_last xs x k (omega arith)
 
 pub get_pushed : {X : Type 0} (xs : List X) (x y : X) (k : ℕ) → slice_get (xs ++ x ∷ []) k ≡ Some y → (slice_get xs k ≡ Some y) ⊎ ((k ≡ length xs) × (y ≡ x))
-get_pushed [] x y zero h = inr (refl, sym (some_same x y h))
+get_pushed [] x y zero h = inr (refl, sym (same_Some x y h))
 get_pushed [] x y (suc k) h = cc
 get_pushed (z ∷ xs) x y zero h = inl h
 get_pushed (z ∷ xs) x y (suc k) h =
@@ -28,7 +26,7 @@ get_pushed (z ∷ xs) x y (suc k) h =
 
 pub get_written : {X : Type 0} (xs : List X) (v x y : X) (i k : ℕ) → slice_get xs i ≡ Some x → slice_get (slice_set xs i v) k ≡ Some y → ((k ≡ i) × (y ≡ v)) ⊎ ((k ≢ i) × (slice_get xs k ≡ Some y))
 get_written [] v x y i k a h = cc
-get_written (z ∷ xs) v x y zero zero a h = inl (refl, sym (some_same v y h))
+get_written (z ∷ xs) v x y zero zero a h = inl (refl, sym (same_Some v y h))
 get_written (z ∷ xs) v x y zero (suc k) a h = inr (λ e. omega (arith, e), h)
 get_written (z ∷ xs) v x y (suc i) zero a h = inr (λ e. omega (arith, e), h)
 get_written (z ∷ xs) v x y (suc i) (suc k) a h =
@@ -61,7 +59,7 @@ zip_push R (z ∷ xs) (w ∷ ys) x y h r = (h.0, zip_push R xs ys x y h.1 r)
 pub zip_at : {A B : Type 0} (R : A → B → Type 0) (xs : List A) (ys : List B) (i : ℕ) (x : A) → AllZip R xs ys → slice_get xs i ≡ Some x → (y : B) × (slice_get ys i ≡ Some y) × R x y
 zip_at {A} R [] ys i x h e = cc
 zip_at {A} R (z ∷ xs) [] i x h e = absurd h
-zip_at {A} R (z ∷ xs) (y ∷ ys) zero x h e = (y, refl, (let P : A → Type 0 = λ a. R a y in subst P (some_same z x e) h.0))
+zip_at {A} R (z ∷ xs) (y ∷ ys) zero x h e = (y, refl, (let P : A → Type 0 = λ a. R a y in subst P (same_Some z x e) h.0))
 zip_at {A} R (z ∷ xs) (y ∷ ys) (suc i) x h e = zip_at R xs ys i x h.1 e
 
 pub zip_none : {A B : Type 0} (R : A → B → Type 0) (xs : List A) (ys : List B) (i : ℕ) → AllZip R xs ys → slice_get xs i ≡ None → slice_get ys i ≡ None

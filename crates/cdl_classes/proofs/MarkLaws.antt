@@ -1,36 +1,37 @@
 -- Names declared twice.
+use Rattle.std.proofs.lemmas.Option.{same_Some}
 use Rattle.std.proofs.Common.{◌≡◌, ◌⊎◌, ◌<◌, ◌≤◌, ◌+◌, ◌&&◌, ℕ, zero, suc, true, false, cond, List, [], ◌∷◌, ◌++◌, map, take, drop, Option, Some, None, Vec, is_some, refl, sym, ◌∙◌, ap, inl, inr, arith, append_assoc, append-nil, nat_lt}
 use Rattle.std.specs.Prelude.{if◌then◌else◌, nat_le, ◌==◌}
 use Rattle.std.specs.declared.alloc.Global.{Global}
 use Rattle.std.specs.BTreeMap.{BTreeMap}
 use Rattle.std.specs.List.{slice_get, slice_set, list_any, filter}
 use Rattle.std.specs.Str.{bytes_eq}
-use Rattle.std.proofs.lemmas.Bool.{cases_Bool, cases_lt, false≢true, false_from_ne_true, eqb-true, eq-eqb, leb-true, le-leb, ltb-true, lt-ltb}
+use Rattle.std.proofs.lemmas.Bool.{cases_Bool, cases_lt, false≢true, false_from_ne_true, eqb-true, eq-eqb, leb-true, le-leb, ltb-true, lt-ltb, and_from, and_parts, or_cases, or_left, or_right}
 use Rattle.std.proofs.Math.ListN.{length-set}
 use Rattle.std.proofs.lemmas.List.{same_from_push, map-append}
 use Rattle.cdl_source.specs.declared.place.Place.{Place}
 use Rattle.cdl_tree.specs.declared.name.Ident.{Ident}
 use Rattle.cdl_classes.specs.Classes.{Full, same_full, text_of}
 use Rattle.cdl_classes.specs.Lookup.{first_named, first_named_from}
-use Rattle.cdl_classes.specs.Numbered.{entry}
+use Rattle.cdl_classes.specs.inner.Numbered.{entry}
 use Rattle.cdl_classes.specs.Places.{not_after, soonest, latest, sooner, least}
 use Rattle.cdl_classes.specs.Rules.{Named, place, later_of, with_name, twice_from, again_from}
-use Rattle.cdl_classes.specs.Marks.{mark_from, Marks, and_later}
-use Rattle.cdl_classes.proofs.Lists.{some_same, get_written}
-use Rattle.cdl_classes.proofs.Fronts.{both, and_true, either, or_left, or_right, same_bytes, bytes_same, same_is, same_self}
+use Rattle.cdl_classes.specs.inner.Marks.{mark_from, Marks, and_later}
+use Rattle.cdl_classes.proofs.Lists.{get_written}
+use Rattle.cdl_classes.proofs.Fronts.{same_bytes, bytes_same, same_is, same_self}
 use Rattle.cdl_classes.proofs.Items.{least-append, drop_at}
 
 -- a place comes before another by its file, or by its byte in one file
 ordered : (p q : Place) → (p.file < q.file) ⊎ ((p.file ≡ q.file) × (p.byte ≤ q.byte)) → not_after p q ≡ true
 ordered p q (inl lt) = or_left (nat_lt p.file q.file) _ (lt-ltb p.file q.file lt)
-ordered p q (inr same) = or_right (nat_lt p.file q.file) _ (and_true (p.file == q.file) (nat_le p.byte q.byte) (eq-eqb p.file q.file same.0) (le-leb p.byte q.byte same.1))
+ordered p q (inr same) = or_right (nat_lt p.file q.file) _ (and_from (p.file == q.file) (nat_le p.byte q.byte) (eq-eqb p.file q.file same.0) (le-leb p.byte q.byte same.1))
 
 order_of : (p q : Place) → not_after p q ≡ true → (p.file < q.file) ⊎ ((p.file ≡ q.file) × (p.byte ≤ q.byte))
 order_of p q h =
-    elim (either (nat_lt p.file q.file) ((p.file == q.file) && nat_le p.byte q.byte) h) [
+    elim (or_cases (nat_lt p.file q.file) ((p.file == q.file) && nat_le p.byte q.byte) h) [
       | inl lt ↦ inl (ltb-true p.file q.file lt)
       | inr rest ↦
-          let both_are = both (p.file == q.file) (nat_le p.byte q.byte) rest in
+          let both_are = and_parts (p.file == q.file) (nat_le p.byte q.byte) rest in
           inr (eqb-true p.file q.file both_are.0, leb-true p.byte q.byte both_are.1)
     ]
 
@@ -163,7 +164,7 @@ noted maps old new paths ns scope q x at s h here path put is = record {
       let push = mark_push (r ++ y ∷ []) None ns N in
       elim (get_written maps new old m scope n here a) [
         | inl w ↦
-            let scoped : r ≡ q = some_same r q (sym b ∙ ap (λ i. slice_get paths i) w.0 ∙ path) in
+            let scoped : r ≡ q = same_Some r q (sym b ∙ ap (λ i. slice_get paths i) w.0 ∙ path) in
             elim (cases_Bool (bytes_eq y x)) [
               | inl hit ↦
                   let name : r ++ y ∷ [] ≡ q ++ x ∷ [] = cc (scoped, same_bytes y x hit) in
@@ -199,7 +200,7 @@ seen_before f names x h = ap (λ (o : Option ℕ). is_some o) (h x) ∙ any_name
 
 pub taken_more : {X : Type 0} (xs : List X) (i : ℕ) (x : X) → slice_get xs i ≡ Some x → take (i + 1) xs ≡ take i xs ++ x ∷ []
 taken_more [] i x e = cc
-taken_more (y ∷ xs) zero x e = ap (λ z. z ∷ []) (some_same y x e)
+taken_more (y ∷ xs) zero x e = ap (λ z. z ∷ []) (same_Some y x e)
 taken_more (y ∷ xs) (suc i) x e =
     let next : suc i + 1 ≡ suc (i + 1) = omega arith in
     ap (λ j. take j (y ∷ xs)) next ∙ ap (λ zs. y ∷ zs) (taken_more xs i x e)

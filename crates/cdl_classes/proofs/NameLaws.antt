@@ -8,13 +8,13 @@ use Rattle.std.proofs.Math.ListN.{length-set}
 use Rattle.std.specs.Str.{bytes_eq}
 use Rattle.std.proofs.lemmas.Bool.{cases_Bool}
 use Rattle.std.proofs.lemmas.List.{same_from_push}
-use Rattle.std.proofs.lemmas.Option.{slice_get_within}
+use Rattle.std.proofs.lemmas.Option.{slice_get_within, same_Some}
 use Rattle.std.proofs.lemmas.Slice.Eq.{bytes_eq-Decides}
 use Rattle.cdl_classes.specs.declared.names.Node.{Node}
 use Rattle.cdl_classes.specs.Classes.{Full}
-use Rattle.cdl_classes.specs.Numbered.{Numbers, Inside, child}
+use Rattle.cdl_classes.specs.inner.Numbered.{Numbers, Inside, child}
 use Rattle.cdl_classes.proofs.Entries.{order, at, lookup-insert}
-use Rattle.cdl_classes.proofs.Lists.{some_same, get_left, get_last, get_pushed, get_written, get_at}
+use Rattle.cdl_classes.proofs.Lists.{get_left, get_last, get_pushed, get_written, get_at}
 
 -- what stands at each place after a leaf is pushed and the node around it is written
 pub record Changed (nodes news : List Node) (scope : ℕ) (x : List ℕ) (around : Node) : Type 0 where
@@ -54,7 +54,7 @@ module _ (nodes news : List Node) (scope : ℕ) (x : List ℕ) (around : Node) (
   same_scope : (k : ℕ) (p : Full) → slice_get all k ≡ Some p → k ≡ scope → p ≡ q
   same_scope k p e s =
       let known : slice_get all scope ≡ Some p = sym (ap (λ i. slice_get all i) s) ∙ e in
-      sym (some_same q p (sym (found_in scope q here) ∙ known))
+      sym (same_Some q p (sym (found_in scope q here) ∙ known))
 
   wider : (parent n : ℕ) (p : Full) → Inside paths parent n p → Inside all parent n p
   wider parent n p i = (i.0, i.1, i.2, found_in parent i.0 i.3, i.4)
@@ -69,7 +69,7 @@ module _ (nodes news : List Node) (scope : ℕ) (x : List ℕ) (around : Node) (
   bytes_same y z e = (bytes_eq-Decides y z).1 e
 
   the_new : (p : Full) → slice_get all (length nodes) ≡ Some p → p ≡ new
-  the_new p e = sym (some_same new p (sym at_new ∙ e))
+  the_new p e = sym (same_Some new p (sym at_new ∙ e))
 
   short : (m : ℕ) (node : Node) → slice_get nodes m ≡ Some node → m ≢ length nodes
   short m node e = λ last. let small = slice_get_within nodes m node e in absurd (omega arith)
@@ -82,7 +82,7 @@ module _ (nodes news : List Node) (scope : ℕ) (x : List ℕ) (around : Node) (
             let same : p ≡ q = same_scope n p b s.0 in
             elim (cases_Bool (bytes_eq y x)) [
               | inl hit ↦
-                  let number : length nodes ≡ m = some_same _ _ (sym (rw hit at (s.2 y)) ∙ e) in
+                  let number : length nodes ≡ m = same_Some _ _ (sym (rw hit at (s.2 y)) ∙ e) in
                   rw (same, same_bytes y x hit, ← number) at_new
               | inr miss ↦ rw same (found_in m _ (h.found scope m around q y w.old here (sym (rw miss at (s.2 y)) ∙ e)))
             ]
@@ -108,7 +108,7 @@ module _ (nodes news : List Node) (scope : ℕ) (x : List ℕ) (around : Node) (
 
   -- a name that was there stands in a scope that was there
   scope_before : (m : ℕ) (p : Full) (y : List ℕ) → slice_get paths m ≡ Some (p ++ y ∷ []) → (k : ℕ) × (slice_get paths k ≡ Some p)
-  scope_before zero p y e = absurd (not_empty p y (some_same _ _ (sym h.top ∙ e)))
+  scope_before zero p y e = absurd (not_empty p y (same_Some _ _ (sym h.top ∙ e)))
   scope_before (suc m) p y e =
       let within : suc m < length nodes = omega (arith, slice_get_within paths (suc m) (p ++ y ∷ []) e, h.size) in
       let it = get_at nodes (suc m) within in

@@ -1,30 +1,28 @@
 -- Names of the library, and names at which a package must exist.
+use Rattle.std.specs.Cmp.{both_ways}
 use Rattle.std.proofs.Common.{◌≡◌, ◌<◌, ◌&&◌, ◌||◌, not, ℕ, Bool, true, false, List, [], ◌∷◌, ◌++◌, map, length, Option, Some, None, Vec, refl, sym, ◌∙◌, ap, inl, inr, arith}
 use Rattle.std.specs.declared.alloc.Global.{Global}
 use Rattle.std.specs.List.{slice_get, list_any}
 use Rattle.std.specs.Str.{bytes_eq}
-use Rattle.std.proofs.lemmas.Bool.{false≢true, false_from_ne_true}
+use Rattle.std.proofs.lemmas.Bool.{false≢true, false_from_ne_true, and_from, and_parts, or_cases, or_left, or_right}
 use Rattle.std.proofs.lemmas.Map.Text.{is_eq-slice_cmp}
-use Rattle.std.proofs.lemmas.Option.{slice_get_within}
+use Rattle.std.proofs.lemmas.Option.{slice_get_within, same_Some}
 use Rattle.cdl_tree.specs.declared.class.FileTree.{FileTree}
 use Rattle.cdl_classes.specs.declared.names.Node.{Node}
 use Rattle.cdl_classes.specs.declared.gather.Classes.{Classes}
 use Rattle.cdl_classes.specs.Classes.{Full, declared, full, is_front, same_full}
 use Rattle.cdl_classes.specs.Lookup.{library, cdl_name, modelica_name, in_library}
-use Rattle.cdl_classes.specs.Numbered.{child}
-use Rattle.cdl_classes.specs.Gathered.{IsGathered}
+use Rattle.cdl_classes.specs.inner.Numbered.{child}
+use Rattle.cdl_classes.specs.inner.Gathered.{IsGathered}
 use Rattle.cdl_classes.specs.Rules.{is_around, is_needed}
-use Rattle.cdl_classes.proofs.Lists.{some_same, get_at}
-use Rattle.std.specs.Prelude.{IsTrue}
+use Rattle.cdl_classes.proofs.Lists.{get_at}
+use Rattle.std.specs.Prelude.{IsTrue, unwrap_or}
 use Rattle.std.specs.Map.{lookup}
 use Rattle.cdl_classes.proofs.Entries.{at}
-use Rattle.cdl_classes.proofs.Fronts.{both, and_true, either, or_left, or_right, bytes_same, front_trans, front_append, front_push}
+use Rattle.cdl_classes.proofs.Fronts.{bytes_same, front_trans, front_append, front_push}
 
-pub bool_same : (a b : Bool) → (a ≡ true → b ≡ true) → (b ≡ true → a ≡ true) → a ≡ b
-bool_same true true h i = refl
-bool_same true false h i = sym (h refl)
-bool_same false true h i = i refl
-bool_same false false h i = refl
+pub marked : {o : Option Bool} {b : Bool} → o ≡ Some b → unwrap_or o false ≡ b
+marked e = ap (λ (o : Option Bool). unwrap_or o false) e
 
 node_ways : (n : Node) (o : Option Node) → o ≡ Some n → o ≡ None → ⊥
 node_ways n o h i = cc
@@ -35,7 +33,7 @@ two_ways m o h i = cc
 -- where the longer name is none of the library's packages, it lies in the library exactly where the shorter one does
 front_up : (l p : Full) (y : List ℕ) → (p ++ y ∷ [] ≡ l → ⊥) → is_front l (p ++ y ∷ []) ≡ is_front l p
 front_up l p y apart =
-    bool_same (is_front l (p ++ y ∷ [])) (is_front l p)
+    both_ways (is_front l (p ++ y ∷ [])) (is_front l p)
     (λ e. elim (front_push l p y e) [
       | inl front ↦ front
       | inr same ↦ absurd (apart (sym same))
@@ -47,29 +45,29 @@ library_up p y c m = rw (front_up cdl_name p y c, front_up modelica_name p y m) 
 
 around_next : (q r : Full) → is_around q r ≡ true → (x : List ℕ) × (is_front (q ++ x ∷ []) r ≡ true)
 around_next [] [] h = absurd (false≢true h)
-around_next [] (y ∷ r) h = (y, and_true (bytes_eq y y) true (bytes_same y y refl) refl)
+around_next [] (y ∷ r) h = (y, and_from (bytes_eq y y) true (bytes_same y y refl) refl)
 around_next (z ∷ q) [] h = absurd (false≢true h)
 around_next (z ∷ q) (y ∷ r) h =
-    let hs = both (bytes_eq z y && is_front q r) (not (bytes_eq z y && same_full q r)) h in
-    let fs = both (bytes_eq z y) (is_front q r) hs.0 in
-    let rest : is_around q r ≡ true = and_true (is_front q r) (not (same_full q r)) fs.1 (let e : not (bytes_eq z y && same_full q r) ≡ not (same_full q r) = rw fs.0 refl in sym e ∙ hs.1) in
+    let hs = and_parts (bytes_eq z y && is_front q r) (not (bytes_eq z y && same_full q r)) h in
+    let fs = and_parts (bytes_eq z y) (is_front q r) hs.0 in
+    let rest : is_around q r ≡ true = and_from (is_front q r) (not (same_full q r)) fs.1 (let e : not (bytes_eq z y && same_full q r) ≡ not (same_full q r) = rw fs.0 refl in sym e ∙ hs.1) in
     let next = around_next q r rest in
-    (next.0, and_true (bytes_eq z y) (is_front (q ++ next.0 ∷ []) r) fs.0 next.1)
+    (next.0, and_from (bytes_eq z y) (is_front (q ++ next.0 ∷ []) r) fs.0 next.1)
 
 next_around : (q r : Full) (x : List ℕ) → is_front (q ++ x ∷ []) r ≡ true → is_around q r ≡ true
 next_around [] [] x h = absurd (false≢true h)
 next_around [] (y ∷ r) x h = refl
 next_around (z ∷ q) [] x h = absurd (false≢true h)
 next_around (z ∷ q) (y ∷ r) x h =
-    let hs = both (bytes_eq z y) (is_front (q ++ x ∷ []) r) h in
-    let rest = both (is_front q r) (not (same_full q r)) (next_around q r x hs.1) in
-    and_true (bytes_eq z y && is_front q r) (not (bytes_eq z y && same_full q r)) (and_true (bytes_eq z y) (is_front q r) hs.0 rest.0)
+    let hs = and_parts (bytes_eq z y) (is_front (q ++ x ∷ []) r) h in
+    let rest = and_parts (is_front q r) (not (same_full q r)) (next_around q r x hs.1) in
+    and_from (bytes_eq z y && is_front q r) (not (bytes_eq z y && same_full q r)) (and_from (bytes_eq z y) (is_front q r) hs.0 rest.0)
     (let e : not (bytes_eq z y && same_full q r) ≡ not (same_full q r) = rw hs.0 refl in e ∙ rest.1)
 
 any_next : (q : Full) (whole : List Full) → list_any (is_around q) whole ≡ true → (x : List ℕ) × (list_any (is_front (q ++ x ∷ [])) whole ≡ true)
 any_next q [] h = absurd (false≢true h)
 any_next q (r ∷ whole) h =
-    elim (either (is_around q r) (list_any (is_around q) whole) h) [
+    elim (or_cases (is_around q r) (list_any (is_around q) whole) h) [
       | inl here ↦
           let n = around_next q r here in
           (n.0, or_left (is_front (q ++ n.0 ∷ []) r) (list_any (is_front (q ++ n.0 ∷ [])) whole) n.1)
@@ -81,18 +79,18 @@ any_next q (r ∷ whole) h =
 next_any : (q : Full) (x : List ℕ) (whole : List Full) → list_any (is_front (q ++ x ∷ [])) whole ≡ true → list_any (is_around q) whole ≡ true
 next_any q x [] h = absurd (false≢true h)
 next_any q x (r ∷ whole) h =
-    elim (either (is_front (q ++ x ∷ []) r) (list_any (is_front (q ++ x ∷ [])) whole) h) [
+    elim (or_cases (is_front (q ++ x ∷ []) r) (list_any (is_front (q ++ x ∷ [])) whole) h) [
       | inl here ↦ or_left (is_around q r) (list_any (is_around q) whole) (next_around q r x here)
       | inr later ↦ or_right (is_around q r) (list_any (is_around q) whole) (next_any q x whole later)
     ]
 
 around_front : (q r : Full) → is_around q r ≡ true → is_front q r ≡ true
-around_front q r h = (both (is_front q r) (not (same_full q r)) h).0
+around_front q r h = (and_parts (is_front q r) (not (same_full q r)) h).0
 
 any_front : (q : Full) (whole : List Full) → list_any (is_around q) whole ≡ true → list_any (is_front q) whole ≡ true
 any_front q [] h = h
 any_front q (r ∷ whole) h =
-    elim (either (is_around q r) (list_any (is_around q) whole) h) [
+    elim (or_cases (is_around q r) (list_any (is_around q) whole) h) [
       | inl here ↦ or_left (is_front q r) (list_any (is_front q) whole) (around_front q r here)
       | inr later ↦ or_right (is_front q r) (list_any (is_front q) whole) (any_front q whole later)
     ]
@@ -146,7 +144,7 @@ module _ (files : List FileTree) (all : Classes) (h : IsGathered files all libra
 
   -- the top lies in no library
   pub not_inside : (q : Full) → slice_get h.names.paths 0 ≡ Some q → false ≡ in_library q
-  not_inside q at = sym (ap in_library (some_same q [] (sym at ∙ h.names.numbers.top)))
+  not_inside q at = sym (ap in_library (same_Some q [] (sym at ∙ h.names.numbers.top)))
 
   pub child_fresh : (scope : ℕ) (node : Node) (q : Full) (x : List ℕ) → slice_get all.nodes.items scope ≡ Some node → slice_get h.names.paths scope ≡ Some q → child node x ≡ None
       → (m : ℕ) → slice_get h.names.paths m ≡ Some (q ++ x ∷ []) → ⊥

@@ -1,8 +1,9 @@
 -- What a look-up finds.
-use Rattle.std.proofs.Common.{◌≡◌, ◌<◌, ℕ, zero, suc, Bool, true, false, List, [], ◌∷◌, ◌++◌, drop, get_or, length, Some, None, refl, sym, ◌∙◌, ap, inl, inr, drop-cons, nat_eq}
+use Rattle.std.proofs.lemmas.Map.Keys.{any_passes_from_place}
+use Rattle.std.proofs.Common.{◌≡◌, ◌<◌, ℕ, suc, Bool, false, List, [], ◌∷◌, ◌++◌, drop, get_or, length, Some, None, refl, sym, ◌∙◌, ap, inl, inr, drop-cons, nat_eq}
 use Rattle.std.specs.List.{slice_get, list_any}
 use Rattle.std.proofs.lemmas.Bool.{cases_Bool, false≢true, false_from_ne_true}
-use Rattle.std.proofs.lemmas.Option.{slice_get_within}
+use Rattle.std.proofs.lemmas.Option.{slice_get_within, same_Some}
 use Rattle.indexmap.specs.IndexMap.{get}
 use Rattle.cdl_tree.specs.declared.class.ClassTree.{ClassTree}
 use Rattle.cdl_tree.specs.declared.class.FileTree.{FileTree}
@@ -11,16 +12,16 @@ use Rattle.cdl_classes.specs.declared.names.Node.{Node}
 use Rattle.cdl_classes.specs.declared.gather.Class.{Class}
 use Rattle.cdl_classes.specs.declared.gather.Classes.{Classes}
 use Rattle.cdl_classes.specs.Classes.{Full, Declared, declared, full, same_full}
-use Rattle.cdl_classes.specs.declared.lookup.Sort.{Sort}
-use Rattle.cdl_classes.specs.declared.lookup.Sort.TheVariants as sort
+use Rattle.cdl_classes.specs.declared.lookup.ClassSort.{ClassSort}
+use Rattle.cdl_classes.specs.declared.lookup.ClassSort.TheVariants as sort
 use Rattle.cdl_classes.specs.declared.lookup.Sought.{Sought}
 use Rattle.cdl_classes.specs.declared.lookup.Sought.TheVariants.{Class as ClassNames, Value}
 use Rattle.cdl_classes.specs.Lookup.{first_of, cdl_name, modelica_name, library, in_library, IsFree, exists, stands, inside, a_class, sort_of, constant_at, constant_in, class_enters, enters}
-use Rattle.cdl_classes.specs.Numbered.{child, entry}
-use Rattle.cdl_classes.specs.Gathered.{IsShown, IsGathered, descend, tree_at}
-use Rattle.cdl_classes.specs.Known.{Known}
-use Rattle.cdl_classes.proofs.Lists.{some_same, cases_option, zip_at, zip_none}
-use Rattle.cdl_classes.proofs.Fronts.{or_left, or_right, same_is}
+use Rattle.cdl_classes.specs.inner.Numbered.{child, entry}
+use Rattle.cdl_classes.specs.inner.Gathered.{IsShown, IsGathered, descend, tree_at}
+use Rattle.cdl_classes.specs.inner.Known.{Known}
+use Rattle.cdl_classes.proofs.Lists.{cases_option, zip_at, zip_none}
+use Rattle.cdl_classes.proofs.Fronts.{same_is}
 use Rattle.cdl_classes.proofs.Adding.{named}
 use Rattle.cdl_classes.proofs.Walk.{then_some}
 
@@ -31,7 +32,7 @@ turn tree c steps k h e =
     let opened : descend tree (get_or steps k 0 ∷ drop (suc k) steps) ≡ Some c = ap (descend tree) (sym (drop-cons steps k 0 h)) ∙ e in
     let there = then_some (λ d. descend d (drop (suc k) steps)) (slice_get (classes_of tree) (get_or steps k 0)) c opened in (
       slice_get_within (classes_of tree) (get_or steps k 0) there.0 there.1,
-      λ d at. ap (λ (x : ClassTree). descend x (drop (suc k) steps)) (some_same d there.0 (sym at ∙ there.1)) ∙ there.2,
+      λ d at. ap (λ (x : ClassTree). descend x (drop (suc k) steps)) (same_Some d there.0 (sym at ∙ there.1)) ∙ there.2,
     )
 
 -- what has no number stands nowhere
@@ -62,13 +63,8 @@ not_library q h = (
   false_from_ne_true _ (λ e. false≢true (sym h ∙ ap in_library (same_is q modelica_name e))),
 )
 
-any_at : {X : Type 0} (t : X → Bool) (xs : List X) (i : ℕ) (x : X) → slice_get xs i ≡ Some x → t x ≡ true → list_any t xs ≡ true
-any_at t [] i x e h = cc
-any_at t (y ∷ xs) zero x e h = or_left (t y) (list_any t xs) (ap t (some_same y x e) ∙ h)
-any_at t (y ∷ xs) (suc i) x e h = or_right (t y) (list_any t xs) (any_at t xs i x e h)
-
 any_false : {X : Type 0} (t : X → Bool) (xs : List X) (i : ℕ) (x : X) → list_any t xs ≡ false → slice_get xs i ≡ Some x → t x ≡ false
-any_false t xs i x h e = false_from_ne_true (t x) (λ y. false≢true (sym h ∙ any_at t xs i x e y))
+any_false t xs i x h e = false_from_ne_true (t x) (λ y. false≢true (sym h ∙ any_passes_from_place t xs i x e y))
 
 pub free_full : (ds : List Declared) (i : ℕ) (d : Declared) → IsFree ds → slice_get ds i ≡ Some d → in_library (full d) ≡ false
 free_full ds i d h e = any_false (λ (x : Declared). in_library (full x)) ds i d h e
@@ -96,22 +92,22 @@ module _ (files : List FileTree) (all : Classes) (h : Known files all) where
       → constant_at (declared files) q x ≡ None
   no_class scope number q x at e none = rw (first_is scope number q at e, unshown number none) refl
 
-  pub constant_is : (scope number : ℕ) (q : Full) (x : List ℕ) (class : Class) (tree : ClassTree) (s : Sort) → slice_get h.gathered.names.paths scope ≡ Some q → get nat_eq all.by_name scope ≡ Some number
+  pub constant_is : (scope number : ℕ) (q : Full) (x : List ℕ) (class : Class) (tree : ClassTree) (s : ClassSort) → slice_get h.gathered.names.paths scope ≡ Some q → get nat_eq all.by_name scope ≡ Some number
       → slice_get all.list.items number ≡ Some class → tree_at files class.file class.top class.steps.items ≡ Some tree → s ≡ sort_of tree
       → constant_at (declared files) q x ≡ constant_in number s (entry class.members x)
   constant_is scope number q x class tree s at e c t k =
       let d = shown_at number class c in
-      let same : tree ≡ (d.0).tree = some_same _ _ (sym t ∙ (d.2).tree) in
+      let same : tree ≡ (d.0).tree = same_Some _ _ (sym t ∙ (d.2).tree) in
       let sort : sort_of (d.0).tree ≡ s = sym (k ∙ ap sort_of same) in
       rw (first_is scope number q at e, d.1, sort, ← (d.2).members x) refl
 
-  pub enters_class : (sought : Sought) (number : ℕ) (x : List ℕ) (class : Class) (tree : ClassTree) (s : Sort) → slice_get all.list.items number ≡ Some class
+  pub enters_class : (sought : Sought) (number : ℕ) (x : List ℕ) (class : Class) (tree : ClassTree) (s : ClassSort) → slice_get all.list.items number ≡ Some class
       → tree_at files class.file class.top class.steps.items ≡ Some tree → s ≡ sort_of tree
       → (d : Declared) × (IsShown h.gathered.names.paths files class d) × (in_library (full d) ≡ false)
       × (enters (declared files) sought (a_class number) x ≡ class_enters (declared files) sought number d s x)
   enters_class sought number x class tree s c t k =
       let d = shown_at number class c in
-      let same : tree ≡ (d.0).tree = some_same _ _ (sym t ∙ (d.2).tree) in
+      let same : tree ≡ (d.0).tree = same_Some _ _ (sym t ∙ (d.2).tree) in
       let sort : sort_of (d.0).tree ≡ s = sym (k ∙ ap sort_of same) in
       (d.0, d.2, free_full (declared files) number d.0 h.free d.1, rw (d.1, sort) refl)
 

@@ -5,8 +5,8 @@ use Rattle.cdl_source.specs.declared.place.Place.{Place}
 use Rattle.cdl_tree.specs.declared.class.Item.{Item}
 use Rattle.cdl_tree.specs.declared.class.ClassTree.{ClassTree}
 use Rattle.cdl_tree.specs.Parts.{class_name, items_of}
-use Rattle.cdl_classes.specs.declared.lookup.Sort.{Sort}
-use Rattle.cdl_classes.specs.declared.lookup.Sort.TheVariants as sort
+use Rattle.cdl_classes.specs.declared.lookup.ClassSort.{ClassSort}
+use Rattle.cdl_classes.specs.declared.lookup.ClassSort.TheVariants as sort
 use Rattle.cdl_classes.specs.Classes.{Full, Declared, full}
 use Rattle.cdl_classes.specs.Lookup.{sort_of}
 use Rattle.cdl_classes.specs.Places.{least}
@@ -20,22 +20,22 @@ next_constant ds file q items i x first h e =
     ∙ least-append first (if_broken (is_taken ds false q x.name.text) (place file x.name)) (taken_constants ds file q (drop (i + 1) items)))
 
 -- what is asked of a class: its own name, then the names in it
-rest_taken : List Declared → Declared → Sort → List Place
+rest_taken : List Declared → Declared → ClassSort → List Place
 rest_taken ds d s = taken_constants ds d.file (full d) (constants_of d s) ++ type_names d.file (own_names d s)
 
-taken_as : List Declared → Declared → ClassTree → Sort → List Place
+taken_as : List Declared → Declared → ClassTree → ClassSort → List Place
 unfolding rest_taken
 taken_as ds d t s = if_broken (is_taken ds (is_package s) d.outer (class_name t).text) (place d.file (class_name t)) ++ rest_taken ds d s
 
 module _ (ds : List Declared) (d : Declared) (tree : ClassTree) (first own : Option Place) (same : d.tree ≡ tree) where
-  begun : Sort → Option Place
+  begun : ClassSort → Option Place
   begun s = least first (if_broken (is_taken ds (is_package s) d.outer (class_name tree).text) (place d.file (class_name tree)))
 
-  whole : (s : Sort) → s ≡ sort_of tree → least first (taken_in ds d) ≡ least (begun s) (rest_taken ds d s)
+  whole : (s : ClassSort) → s ≡ sort_of tree → least first (taken_in ds d) ≡ least (begun s) (rest_taken ds d s)
   unfolding begun rest_taken taken_as
   whole s k =
       let sort_is : sort_of d.tree ≡ s = ap sort_of same ∙ sym k in
-      ap (λ (t : ClassTree). least first (taken_as ds d t (sort_of d.tree))) same ∙ ap (λ (z : Sort). least first (taken_as ds d tree z)) sort_is
+      ap (λ (t : ClassTree). least first (taken_as ds d t (sort_of d.tree))) same ∙ ap (λ (z : ClassSort). least first (taken_as ds d tree z)) sort_is
       ∙ least-append first (if_broken (is_taken ds (is_package s) d.outer (class_name tree).text) (place d.file (class_name tree))) (rest_taken ds d s)
 
   pub taken_package_class : sort.Package ≡ sort_of tree → own ≡ least first (if_broken (is_taken ds true d.outer (class_name tree).text) (place d.file (class_name tree)))

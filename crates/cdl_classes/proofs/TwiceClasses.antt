@@ -8,12 +8,12 @@ use Rattle.cdl_source.specs.declared.place.Place.{Place}
 use Rattle.cdl_tree.specs.declared.class.Item.{Item}
 use Rattle.cdl_tree.specs.declared.class.ClassTree.{ClassTree}
 use Rattle.cdl_tree.specs.Parts.{class_name, items_of}
-use Rattle.cdl_classes.specs.declared.lookup.Sort.{Sort}
-use Rattle.cdl_classes.specs.declared.lookup.Sort.TheVariants as sort
+use Rattle.cdl_classes.specs.declared.lookup.ClassSort.{ClassSort}
+use Rattle.cdl_classes.specs.declared.lookup.ClassSort.TheVariants as sort
 use Rattle.cdl_classes.specs.Classes.{Full, Declared, full}
 use Rattle.cdl_classes.specs.Lookup.{sort_of}
 use Rattle.cdl_classes.specs.Places.{least}
-use Rattle.cdl_classes.specs.Marks.{Marks}
+use Rattle.cdl_classes.specs.inner.Marks.{Marks}
 use Rattle.cdl_classes.specs.Rules.{Named, place, constant_named, constants_of, named_in, named_of, later_of, with_name, twice_from, again_in, again_of}
 use Rattle.cdl_classes.proofs.Items.{least-append, drop_at}
 use Rattle.cdl_classes.proofs.MarkLaws.{twice_append, taken_more}
@@ -58,13 +58,13 @@ own_named d = record { full = full d; at = place d.file (class_name d.tree) }
 pub named_package : (d : Declared) (tree : ClassTree) → d.tree ≡ tree → sort.Package ≡ sort_of tree → (own_named d ∷ []) ++ map (constant_named d) (items_of tree) ≡ named_in d
 named_package d tree same k =
     let sort_is : sort_of d.tree ≡ sort.Package = ap sort_of same ∙ sym k in
-    ap (λ (t : ClassTree). own_named d ∷ map (constant_named d) (items_of t)) (sym same) ∙ ap (λ (s : Sort). own_named d ∷ map (constant_named d) (constants_of d s)) (sym sort_is)
+    ap (λ (t : ClassTree). own_named d ∷ map (constant_named d) (items_of t)) (sym same) ∙ ap (λ (s : ClassSort). own_named d ∷ map (constant_named d) (constants_of d s)) (sym sort_is)
 
 pub named_block : (d : Declared) (tree : ClassTree) → d.tree ≡ tree → sort.Block ≡ sort_of tree → own_named d ∷ [] ≡ named_in d
-named_block d tree same k = ap (λ (s : Sort). own_named d ∷ map (constant_named d) (constants_of d s)) (sym (ap sort_of same ∙ sym k))
+named_block d tree same k = ap (λ (s : ClassSort). own_named d ∷ map (constant_named d) (constants_of d s)) (sym (ap sort_of same ∙ sym k))
 
 pub named_enumeration : (d : Declared) (tree : ClassTree) → d.tree ≡ tree → sort.Enumeration ≡ sort_of tree → own_named d ∷ [] ≡ named_in d
-named_enumeration d tree same k = ap (λ (s : Sort). own_named d ∷ map (constant_named d) (constants_of d s)) (sym (ap sort_of same ∙ sym k))
+named_enumeration d tree same k = ap (λ (s : ClassSort). own_named d ∷ map (constant_named d) (constants_of d s)) (sym (ap sort_of same ∙ sym k))
 
 pub next_own : (ds : List Declared) (i : ℕ) (d : Declared) (first : Option Place) → slice_get ds i ≡ Some d
     → least (least first (again_in d)) (again_of (drop (i + 1) ds)) ≡ least first (again_of (drop i ds))

@@ -1,8 +1,9 @@
 -- The names of the package behind `within`.
+use Rattle.std.proofs.lemmas.Option.{same_Some}
 use Rattle.std.proofs.Common.{◌≡◌, ◌<◌, ◌+◌, ℕ, zero, suc, true, false, List, [], ◌∷◌, ◌++◌, map, take, get_or, length, Some, None, refl, sym, ◌∙◌, ap, subst, inl, inr, arith, append_assoc, append-nil, nat_eq, codes, HashMap, BuildHasherDefault, FoldHasher}
 use Rattle.std.specs.List.{slice_get, list_any, list_all, AllZip}
 use Rattle.std.specs.Prelude.{◌==◌}
-use Rattle.std.proofs.lemmas.Bool.{false≢true}
+use Rattle.std.proofs.lemmas.Bool.{false≢true, and_from, and_parts, or_cases, or_left}
 use Rattle.std.proofs.lemmas.Bool.Decides.{eqb_tells}
 use Rattle.std.proofs.lemmas.List.{map-append, take_more, length-take-le}
 use Rattle.indexmap.specs.IndexMap.{get}
@@ -13,10 +14,9 @@ use Rattle.cdl_classes.specs.declared.gather.Classes.{Classes}
 use Rattle.cdl_classes.specs.Classes.{Full, Declared, full, is_front, declared, declared_from, declared_in, declared_all, name_of, within_of}
 use Rattle.cdl_classes.specs.Lookup.{library, cdl_name, modelica_name}
 use Rattle.cdl_classes.specs.declared.gather.Class.{Class}
-use Rattle.cdl_classes.specs.Numbered.{Numbers, Names, Covers, Keeps, Grown, WithinAdded}
-use Rattle.cdl_classes.specs.Gathered.{IsShown, IsGathered, After, FileSoFar, tree_at}
-use Rattle.cdl_classes.proofs.Lists.{some_same}
-use Rattle.cdl_classes.proofs.Fronts.{both, and_true, either, or_left, front_self, front_trans, front_append, any_trans, any_left, any_right, any_split}
+use Rattle.cdl_classes.specs.inner.Numbered.{Numbers, Names, Covers, Keeps, Grown, WithinAdded}
+use Rattle.cdl_classes.specs.inner.Gathered.{IsShown, IsGathered, After, FileSoFar, tree_at}
+use Rattle.cdl_classes.proofs.Fronts.{front_self, front_trans, front_append, any_trans, any_left, any_right, any_split}
 use Rattle.cdl_classes.proofs.Adding.{first_kept, still_shown, grown_to}
 use Rattle.cdl_classes.proofs.Listed.{declared_in-is, declared_all-push}
 
@@ -27,8 +27,8 @@ Inside xs ys = (q : Full) → list_any (is_front q) xs ≡ true → list_any (is
 pub inside_all : (xs ys : List Full) → list_all (λ w. list_any (is_front w) ys) xs ≡ true → Inside xs ys
 inside_all [] ys h q i = absurd (false≢true i)
 inside_all (x ∷ xs) ys h q i =
-    let hs = both (list_any (is_front x) ys) (list_all (λ w. list_any (is_front w) ys) xs) h in
-    elim (either (is_front q x) (list_any (is_front q) xs) i) [
+    let hs = and_parts (list_any (is_front x) ys) (list_all (λ w. list_any (is_front w) ys) xs) h in
+    elim (or_cases (is_front q x) (list_any (is_front q) xs) i) [
       | inl here ↦ any_trans q x ys here hs.0
       | inr later ↦ inside_all xs ys hs.1 q later
     ]
@@ -53,10 +53,10 @@ within_none nodes whole h = record {
 }
 
 all_fronts : (ps : List Full) (q : Full) (x : List ℕ) → list_all (λ p. is_front p q) ps ≡ true → list_all (λ p. is_front p (q ++ x ∷ [])) (ps ++ (q ++ x ∷ []) ∷ []) ≡ true
-all_fronts [] q x h = and_true _ true (front_self (q ++ x ∷ [])) refl
+all_fronts [] q x h = and_from _ true (front_self (q ++ x ∷ [])) refl
 all_fronts (p ∷ ps) q x h =
-    let hs = both (is_front p q) (list_all (λ r. is_front r q) ps) h in
-    and_true (is_front p (q ++ x ∷ [])) (list_all (λ r. is_front r (q ++ x ∷ [])) (ps ++ (q ++ x ∷ []) ∷ []))
+    let hs = and_parts (is_front p q) (list_all (λ r. is_front r q) ps) h in
+    and_from (is_front p (q ++ x ∷ [])) (list_all (λ r. is_front r (q ++ x ∷ [])) (ps ++ (q ++ x ∷ []) ∷ []))
     (front_trans p q (q ++ x ∷ []) hs.0 (front_append q (x ∷ []))) (all_fronts ps q x hs.1)
 
 pub within_more : (old : List Full) (nodes news : List Node) (whole : List Full) (n m : ℕ) (q : Full) (x : List ℕ) (a : WithinAdded old nodes whole n q)
@@ -159,8 +159,8 @@ first_front file w c more =
 within_fulls : (more fulls : List Full) (w : Full) → list_any (is_front w) fulls ≡ true → list_all (λ p. is_front p w) more ≡ true → (q : Full) → list_any (is_front q) more ≡ true → list_any (is_front q) fulls ≡ true
 within_fulls [] fulls w h f q i = absurd (false≢true i)
 within_fulls (m ∷ more) fulls w h f q i =
-    let fs = both (is_front m w) (list_all (λ p. is_front p w) more) f in
-    elim (either (is_front q m) (list_any (is_front q) more) i) [
+    let fs = and_parts (is_front m w) (list_all (λ p. is_front p w) more) f in
+    elim (or_cases (is_front q m) (list_any (is_front q) more) i) [
       | inl here ↦ any_trans q w fulls (front_trans q m w here fs.0) h
       | inr later ↦ within_fulls more fulls w h fs.1 q later
     ]
@@ -211,7 +211,7 @@ file_done files old all ds file n w cs h a =
     subst Q (sym it.2) (file_done_of files old all ds (declared_all file w (it.0 ∷ it.1)) n w (first_front file w it.0 it.1) (subst P it.2 a))
 
 only_top : (n : ℕ) (q : Full) → slice_get ([] ∷ []) n ≡ Some q → list_any (is_front q) ([] ∷ []) ≡ true
-only_top zero q at = ap (λ (p : Full). list_any (is_front p) ([] ∷ [])) (sym (some_same [] q at))
+only_top zero q at = ap (λ (p : Full). list_any (is_front p) ([] ∷ [])) (sym (same_Some [] q at))
 only_top (suc n) q at = cc
 
 each_top : (q : Full) → list_any (is_front q) ([] ∷ []) ≡ true → (n : ℕ) × (slice_get ([] ∷ []) n ≡ Some q)

@@ -52,7 +52,7 @@ abbrev pub Listing : Type 0
 Listing = ClassTree → Full → List Declared
 
 abbrev pub listings : ClassTree-F Listing → List Listing
-listings (ClassTree-F.Block name items connects span) = []
+listings (ClassTree-F.Block name items statements span) = []
 listings (ClassTree-F.Package name classes constants span) = classes
 listings (ClassTree-F.Enumeration name literals span) = []
 

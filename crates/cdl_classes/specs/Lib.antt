@@ -1,11 +1,9 @@
 pub mod Classes
 pub mod Lookup
-pub mod Numbered
-pub mod Gathered
-pub mod Known
+pub mod Scopes
 pub mod Found
 pub mod Table
 pub mod Places
 pub mod Rules
-pub mod Marks
 pub mod Verdict
+pub mod inner

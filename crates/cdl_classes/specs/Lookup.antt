@@ -9,8 +9,8 @@ use Rattle.cdl_tree.specs.declared.class.Item.{Item}
 use Rattle.cdl_tree.specs.declared.class.ClassTree.{ClassTree, out-ClassTree}
 use Rattle.cdl_tree.specs.declared.class.ClassTree.TheOpen.{ClassTree-F}
 use Rattle.cdl_tree.specs.Parts.{items_of, literals_of}
-use Rattle.cdl_classes.specs.declared.lookup.Sort.{Sort}
-use Rattle.cdl_classes.specs.declared.lookup.Sort.TheVariants as sort
+use Rattle.cdl_classes.specs.declared.lookup.ClassSort.{ClassSort}
+use Rattle.cdl_classes.specs.declared.lookup.ClassSort.TheVariants as sort
 use Rattle.cdl_classes.specs.declared.lookup.Sought.{Sought}
 use Rattle.cdl_classes.specs.declared.lookup.Sought.TheVariants.{Class, Value}
 use Rattle.cdl_classes.specs.Classes.{Full, Declared, text_of, full, is_front, same_full}
@@ -70,16 +70,16 @@ stands ds q = option_or (option_map a_class (first_of q ds)) (if exists ds q the
 abbrev pub inside : List Declared → Full → List ℕ → Option Entity
 inside ds q x = if same_full q cdl_name then Some (in_cdl (x ∷ [])) else (if same_full q modelica_name then Some (in_modelica (x ∷ [])) else stands ds (q ++ x ∷ []))
 
-abbrev pub sort_at : ClassTree-F ClassTree → Sort
-sort_at (ClassTree-F.Block name items connects span) = sort.Block
+abbrev pub sort_at : ClassTree-F ClassTree → ClassSort
+sort_at (ClassTree-F.Block name items statements span) = sort.Block
 sort_at (ClassTree-F.Package name classes constants span) = sort.Package
 sort_at (ClassTree-F.Enumeration name literals span) = sort.Enumeration
 
-unfoldable pub sort_of : ClassTree → Sort
+unfoldable pub sort_of : ClassTree → ClassSort
 sort_of c = sort_at (out-ClassTree c)
 
 -- the constant of this name in the package of this full name
-abbrev pub constant_in : ℕ → Sort → Option ℕ → Option Entity
+abbrev pub constant_in : ℕ → ClassSort → Option ℕ → Option Entity
 constant_in i sort.Block k = None
 constant_in i sort.Package k = option_map (a_constant i) k
 constant_in i sort.Enumeration k = None
@@ -114,7 +114,7 @@ seek ds sought outer zero x = has ds sought [] x
 seek ds sought outer (suc k) x = option_or (has ds sought (take (suc k) outer) x) (seek ds sought outer k x)
 
 -- what is found inside a class
-abbrev pub class_enters : List Declared → Sought → ℕ → Declared → Sort → List ℕ → Option Entity
+abbrev pub class_enters : List Declared → Sought → ℕ → Declared → ClassSort → List ℕ → Option Entity
 class_enters ds sought i d sort.Block x = None
 class_enters ds sought i d sort.Package x = member ds sought (full d) x
 class_enters ds Class i d sort.Enumeration x = None
@@ -147,7 +147,7 @@ abbrev pub IsFree : List Declared → Type 0
 IsFree ds = list_any (λ d. in_library (full d)) ds ≡ false
 
 -- the scopes of a class: the packages around it, and a package itself
-abbrev pub scope_at : Declared → Sort → Full
+abbrev pub scope_at : Declared → ClassSort → Full
 scope_at d sort.Block = d.outer
 scope_at d sort.Package = full d
 scope_at d sort.Enumeration = d.outer

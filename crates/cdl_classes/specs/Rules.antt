@@ -13,11 +13,9 @@ use Rattle.cdl_tree.specs.declared.class.Item.{Item}
 use Rattle.cdl_tree.specs.Parts.{class_name, items_of, literals_of}
 use Rattle.cdl_classes.specs.declared.found.Found.{Found}
 use Rattle.cdl_classes.specs.declared.found.Found.TheVariants as it
-use Rattle.cdl_classes.specs.declared.lookup.Sort.{Sort}
-use Rattle.cdl_classes.specs.declared.lookup.Sort.TheVariants as sort
+use Rattle.cdl_classes.specs.declared.lookup.ClassSort.{ClassSort}
+use Rattle.cdl_classes.specs.declared.lookup.ClassSort.TheVariants as sort
 use Rattle.cdl_classes.specs.declared.lookup.Sought.TheVariants.{Class}
-use Rattle.cdl_classes.specs.declared.suits.Asked.{Asked}
-use Rattle.cdl_classes.specs.declared.suits.Asked.TheVariants as asked
 use Rattle.cdl_classes.specs.Classes.{Full, Declared, parts_of, full, is_front, same_full}
 use Rattle.cdl_classes.specs.Lookup.{library, in_library, scalar_named, sort_of, meaning}
 use Rattle.cdl_classes.specs.Found.{found_of}
@@ -39,7 +37,7 @@ pub record Named : Type 0 where
 abbrev pub constant_named : Declared → Item → Named
 constant_named d x = record { full = full d ++ x.name.text ∷ []; at = place d.file x.name }
 
-abbrev pub constants_of : Declared → Sort → List Item
+abbrev pub constants_of : Declared → ClassSort → List Item
 constants_of d sort.Block = []
 constants_of d sort.Package = items_of d.tree
 constants_of d sort.Enumeration = []
@@ -63,7 +61,7 @@ twice_from before [] = []
 twice_from before (n ∷ ns) = map (later_of n.at) (filter (with_name n.full) before) ++ twice_from (before ++ n ∷ []) ns
 
 -- the items of a block and the literals of an enumeration
-abbrev pub own_names : Declared → Sort → List Ident
+abbrev pub own_names : Declared → ClassSort → List Ident
 own_names d sort.Block = map name_ident (items_of d.tree)
 own_names d sort.Package = []
 own_names d sort.Enumeration = literals_of d.tree
@@ -100,7 +98,7 @@ is_type x = is_some (scalar_named x)
 abbrev pub is_taken : List Declared → Bool → Full → List ℕ → Bool
 is_taken ds is_package q x = in_library (q ++ x ∷ []) || ((not is_package && is_needed ds (q ++ x ∷ [])) || is_type x)
 
-abbrev pub is_package : Sort → Bool
+abbrev pub is_package : ClassSort → Bool
 is_package sort.Block = false
 is_package sort.Package = true
 is_package sort.Enumeration = false
@@ -158,7 +156,7 @@ abbrev pub places_from : (ℕ → Item → Bool) → ℕ → List Declared → L
 places_from test number [] = []
 places_from test number (d ∷ ds) = places_in test number d.file (items_of d.tree) ++ places_from test (number + 1) ds
 
-abbrev pub is_sort : Sort → Sort → Bool
+abbrev pub is_sort : ClassSort → ClassSort → Bool
 is_sort sort.Block sort.Block = true
 is_sort sort.Package sort.Package = true
 is_sort sort.Enumeration sort.Enumeration = true
@@ -168,7 +166,7 @@ abbrev pub option_test : {A : Type 0} → (A → Bool) → Option A → Bool
 option_test t None = false
 option_test t (Some x) = t x
 
-abbrev pub class_sort : (Sort → Bool) → List Declared → ℕ → Bool
+abbrev pub class_sort : (ClassSort → Bool) → List Declared → ℕ → Bool
 class_sort test ds i = option_test (λ (d : Declared). test (sort_of d.tree)) (slice_get ds i)
 
 -- a type of a parameter or constant: a scalar or a declared enumeration
@@ -207,11 +205,6 @@ is_supported ds prefix.Constant x f = is_value_type ds f && no_expr x.condition
 
 abbrev pub is_unsupported : List Declared → ℕ → Item → Bool
 is_unsupported ds number x = not (is_supported ds x.prefix x (class_of ds number x) && nat_le (length x.dims) 2)
-
--- what is asked of an item
-abbrev pub test_of : Asked → List Declared → ℕ → Item → Bool
-test_of asked.Found = is_missing
-test_of asked.Supported = is_unsupported
 
 abbrev pub broken_12 : List Declared → List Place
 broken_12 ds = places_from (is_missing ds) 0 ds

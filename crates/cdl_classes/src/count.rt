@@ -3,8 +3,8 @@ ghost use Rattle.std.specs.Prelude.{◌≡◌, ◌<◌, ◌+◌, ◌^◌, List, 
 ghost use Rattle.cdl_tree.specs.declared.class.ClassTree.{ClassTree as ClassTreeOf};
 ghost use Rattle.cdl_classes.specs.Classes.{Full, Declared, declared};
 ghost use Rattle.cdl_classes.specs.Lookup.{library};
-ghost use Rattle.cdl_classes.specs.Gathered.{IsGathered, IsShown, tree_at};
-ghost use Rattle.cdl_classes.specs.Table.{name_count, names_in};
+ghost use Rattle.cdl_classes.specs.inner.Gathered.{IsGathered, IsShown, tree_at};
+ghost use Rattle.cdl_classes.specs.inner.Kept.{name_count, names_in};
 
 use crate::gather::{Class, Classes};
 use crate::lookup::tree_of;

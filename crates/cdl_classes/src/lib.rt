@@ -2,20 +2,22 @@
 #![tactic(auto)]
 
 mod count;
+mod declarations;
+mod duplicates;
 mod found;
-mod free;
+mod free_names;
+mod full_name;
 mod gather;
+mod item_classes;
+mod law;
 mod lookup;
 mod members;
 mod names;
 mod places;
-mod root;
-mod suits;
+mod scopes;
 mod table;
-mod twice;
 
 pub use found::{ClassId, Found, ValueFound};
+pub use law::first_scope_counts;
+pub use lookup::{ClassSort, Sought};
 pub use table::{ClassFault, ClassTable};
-
-#[cfg(test)]
-mod tests;

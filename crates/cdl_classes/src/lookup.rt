@@ -6,21 +6,23 @@ ghost use Rattle.cdl_tree.specs.declared.class.ClassTree.{ClassTree as ClassTree
 ghost use Rattle.cdl_tree.specs.declared.class.FileTree.{FileTree as FileTreeOf};
 ghost use Rattle.cdl_tree.specs.Parts.{classes_of};
 ghost use Rattle.cdl_classes.specs.Classes.{Full, Declared, declared, same_full, text_of};
-ghost use Rattle.cdl_classes.specs.Gathered.{tree_at};
-ghost use Rattle.cdl_classes.specs.Known.{Known, Finds, Scoped, IsOver, IsOwn, means};
+ghost use Rattle.cdl_classes.specs.inner.Gathered.{tree_at};
+ghost use Rattle.cdl_classes.specs.inner.Known.{Known, Finds, Scoped, IsOver, IsOwn, means};
 ghost use Rattle.cdl_classes.specs.Lookup as spec;
 ghost use Rattle.cdl_classes.specs.declared.lookup.Sought.{Sought};
-ghost use Rattle.cdl_classes.specs.Numbered.{entry};
-ghost use Rattle.cdl_classes.specs.declared.lookup.Sort.TheVariants as sort;
+ghost use Rattle.cdl_classes.specs.inner.Numbered.{entry};
+ghost use Rattle.cdl_classes.specs.inner.Scopes.{AreOutwards};
+ghost use Rattle.cdl_classes.specs.declared.lookup.ClassSort.TheVariants as sort;
 
 use crate::gather::{Class, Classes};
 use crate::names::{Node, TOP};
+use crate::scopes::Outwards;
 use cdl_kinds::ValueType;
 use cdl_tree::{ClassTree, FileTree, Ident};
 
 /// What a declared class is.
 #[derive(Clone, Copy, Debug, PartialEq, Eq)]
-pub enum Sort {
+pub enum ClassSort {
     Block,
     Package,
     Enumeration,
@@ -48,13 +50,13 @@ pub enum Standing<'n> {
 
 // What the class is.
 #[tactic(auto, unfolding(crate::specs::Lookup::sort_of))]
-pub fn sort_of(tree: &ClassTree) -> Sort
+pub fn sort_of(tree: &ClassTree) -> ClassSort
     ensures { result ≡ spec.sort_of tree.now }
 {
     match tree {
-        ClassTree::Block { .. } => Sort::Block,
-        ClassTree::Package { .. } => Sort::Package,
-        ClassTree::Enumeration { .. } => Sort::Enumeration,
+        ClassTree::Block { .. } => ClassSort::Block,
+        ClassTree::Package { .. } => ClassSort::Package,
+        ClassTree::Enumeration { .. } => ClassSort::Enumeration,
     }
 }
 
@@ -158,12 +160,12 @@ fn constant(files: &[FileTree], all: &Classes, scope: usize, part: &[u8]) -> Opt
         return None;
     };
     match sort_of(tree_of(files, class)) {
-        Sort::Package => match class.members.get(part) {
+        ClassSort::Package => match class.members.get(part) {
             Some(item) => Some((number, *item)),
             None => None,
         },
-        Sort::Block => None,
-        Sort::Enumeration => None,
+        ClassSort::Block => None,
+        ClassSort::Enumeration => None,
     }
 }
 
@@ -214,11 +216,13 @@ fn has<'n>(
 fn seek<'n>(
     files: &[FileTree],
     all: &Classes,
+    outwards: &[Outwards],
     sought: Sought,
     outer: usize,
     part: &[u8],
 ) -> Option<Standing<'n>>
-    requires { Scoped files.now all.now outer }
+    requires scoped { Scoped files.now all.now outer }
+    requires outwards { AreOutwards files.now all.now outwards.now }
     ensures over { IfSome result IsOver }
     ensures found { (h : Known files.now all.now) (q : Full) → slice_get h.gathered.names.paths outer ≡ Some q → spec.in_library q ≡ false
         → Finds h.gathered.names.paths result (spec.seek (declared files.now) sought q (length q) part.now) }
@@ -228,7 +232,7 @@ fn seek<'n>(
         if let Some(found) = has(files, all, sought, scope, part) {
             return Some(found);
         }
-        scope = all.nodes[scope].parent;
+        scope = outwards[scope].next_for(part);
     }
     has(files, all, sought, TOP, part)
 }
@@ -273,9 +277,9 @@ fn class_enters<'n>(
         return None;
     };
     match sort_of(tree_of(files, class)) {
-        Sort::Package => member(files, all, sought, class.name, part),
-        Sort::Enumeration => literal(class, sought, number, part),
-        Sort::Block => None,
+        ClassSort::Package => member(files, all, sought, class.name, part),
+        ClassSort::Enumeration => literal(class, sought, number, part),
+        ClassSort::Block => None,
     }
 }
 
@@ -348,18 +352,20 @@ fn leads<'n>(
 pub fn lookup<'n>(
     files: &[FileTree],
     all: &Classes,
+    outwards: &[Outwards],
     sought: Sought,
     outer: usize,
     name: &'n [Ident],
 ) -> Option<Standing<'n>>
-    requires { Scoped files.now all.now outer }
+    requires scoped { Scoped files.now all.now outer }
+    requires outwards { AreOutwards files.now all.now outwards.now }
     ensures { (h : Known files.now all.now) (q : Full) → slice_get h.gathered.names.paths outer ≡ Some q → spec.in_library q ≡ false
         → Finds h.gathered.names.paths result (spec.lookup (declared files.now) sought q (map text_of name.now)) }
 {
     let [first, rest @ ..] = name else {
         return None;
     };
-    match seek(files, all, sought, outer, first.text.bytes()) {
+    match seek(files, all, outwards, sought, outer, first.text.bytes()) {
         Some(found) => leads(files, all, sought, found, rest),
         None => None,
     }
@@ -369,11 +375,13 @@ pub fn lookup<'n>(
 pub fn meaning_of<'n>(
     files: &[FileTree],
     all: &Classes,
+    outwards: &[Outwards],
     sought: Sought,
     number: usize,
     name: &'n [Ident],
 ) -> Option<Standing<'n>>
     requires known { Known files.now all.now }
+    requires outwards { AreOutwards files.now all.now outwards.now }
     requires declared { number < length (declared files.now) }
     ensures { (h : Known files.now all.now) → Finds h.gathered.names.paths result (spec.meaning (declared files.now) sought number (map text_of name.now)) }
 {
@@ -381,8 +389,8 @@ pub fn meaning_of<'n>(
         return None;
     };
     match sort_of(tree_of(files, class)) {
-        Sort::Package => lookup(files, all, sought, class.name, name),
-        Sort::Block => lookup(files, all, sought, class.outer, name),
-        Sort::Enumeration => lookup(files, all, sought, class.outer, name),
+        ClassSort::Package => lookup(files, all, outwards, sought, class.name, name),
+        ClassSort::Block => lookup(files, all, outwards, sought, class.outer, name),
+        ClassSort::Enumeration => lookup(files, all, outwards, sought, class.outer, name),
     }
 }

@@ -1,37 +1,34 @@
-// The table of the declared classes.
-ghost use Rattle.std.specs.Prelude.{◌≡◌, ◌<◌, ◌≤◌, ◌^◌, IfOk, IfErr, List, Some, length, slice_get, option_map, option_and_then};
-ghost use Rattle.cdl_classes.specs.Classes.{Full, declared, parts_of};
-ghost use Rattle.cdl_classes.specs.Lookup.{Entity, meaning};
-ghost use Rattle.cdl_classes.specs.Known.{IsSmall, means};
+// The table of the declared classes, which keep the rules on classes.
+ghost use Rattle.std.specs.Prelude.{◌≡◌, ◌<◌, ◌≤◌, ◌^◌, IfOk, IfErr, IfSome, List, None, Some, length, slice_get, option_map, option_and_then};
+ghost use Rattle.cdl_tree.specs.declared.class.Item.{Item as ItemOf};
+ghost use Rattle.cdl_classes.specs.Classes.{declared, parts_of};
+ghost use Rattle.cdl_classes.specs.Lookup.{meaning};
 ghost use Rattle.cdl_classes.specs.Found.{found_of, value_of};
-ghost use Rattle.cdl_classes.specs.Table.{name_count, cut, block_of};
+ghost use Rattle.cdl_classes.specs.Rules.{IsKnown, class_of};
+ghost use Rattle.cdl_classes.specs.Table.{IsOf, IsValue, block_of, cut, item_of, items_at};
 ghost use Rattle.cdl_classes.specs.Verdict.{IsUnbroken, Refuses};
+ghost use Rattle.cdl_classes.specs.declared.lookup.ClassSort.TheVariants as sort;
 ghost use Rattle.cdl_classes.specs.declared.lookup.Sought.TheVariants as sought;
 
-use crate::count::count;
-use crate::found::{ClassId, Found, ValueFound, cdl_found, modelica_found};
-use crate::free::first_taken;
-use crate::gather::{Classes, gather_files};
-use crate::lookup::{Sort, Sought, Standing, class_at, first_at, meaning_of, sort_of, tree_of};
-use crate::root::name_at;
-use crate::suits::{Asked, first_item};
-use crate::twice::first_twice;
+use crate::declarations::Declarations;
+use crate::found::{ClassId, Found, ValueFound};
+use crate::item_classes::{Asked, first_item, item_classes};
 use cdl_source::{List, OutOfMemory, Place};
 use cdl_tree::{ClassTree, FileTree, Name};
 use std::alloc::Global;
 use std::marker::Model;
 
-/// The declared classes of files, which contracts see as the trees of the files.
+/// The declared classes of files that keep the rules on classes. Contracts see it as the trees of the files.
 #[derive(Drop)]
 pub struct ClassTable {
-    files: List<FileTree>,
-    classes: Classes,
+    declarations: Declarations,
+    item_classes: Vec<Vec<Option<Found>>>,
 }
 
 impl Model for ClassTable {
     ghost use Rattle.std.specs.Prelude.{List};
     ghost use Rattle.cdl_tree.specs.declared.class.FileTree.{FileTree as FileTreeOf};
-    ghost use Rattle.cdl_classes.specs.Table.{IsTable};
+    ghost use Rattle.cdl_classes.specs.inner.Kept.{IsTable};
     ghost use Rattle.cdl_tree.specs.contracts.class.ClassTree as tree;
     ghost use Rattle.std.specs.Coded.{codes};
 
@@ -39,48 +36,9 @@ impl Model for ClassTable {
 
     ghost coded = { Prim.hlevel (codes, tree.the_row.coded) };
 
-    ghost view = { λ t. t.files };
+    ghost view = { λ t. t.declarations };
 
-    ghost invariant = { λ t. IsTable t.files t.classes };
-}
-
-// What callers see of a class name.
-fn found(standing: Standing<'_>) -> Option<Found>
-    requires { IsSmall standing }
-    ensures { (paths : List Full) (e : Entity) → means paths standing.entry ≡ Some e → result ≡ found_of e }
-{
-    match standing {
-        Standing::Class(number) => Some(Found::Class(ClassId {
-            index: number as u32,
-        })),
-        Standing::Package(_) => Some(Found::Package),
-        Standing::Cdl(below) => Some(cdl_found(below)),
-        Standing::Modelica(below) => Some(modelica_found(below)),
-        Standing::Type(kind) => Some(Found::Scalar(kind)),
-        Standing::Constant { .. } | Standing::Literal { .. } => None,
-    }
-}
-
-// What callers see of a value name.
-fn value_found(standing: Standing<'_>) -> Option<ValueFound>
-    requires { IsSmall standing }
-    ensures { (paths : List Full) (e : Entity) → means paths standing.entry ≡ Some e → result ≡ value_of e }
-{
-    match standing {
-        Standing::Constant { package, item } => Some(ValueFound::Constant {
-            package: ClassId {
-                index: package as u32,
-            },
-            item: item as u32,
-        }),
-        Standing::Literal { class, place } => Some(ValueFound::Literal {
-            class: ClassId {
-                index: class as u32,
-            },
-            ordinal: place as u32 + 1,
-        }),
-        _ => None,
-    }
+    ghost invariant = { λ t. IsTable t.declarations t.item_classes.items };
 }
 
 /// Why there is no table.
@@ -116,38 +74,34 @@ impl ClassTable {
         ensures ok { IfOk result (λ table. (table ≡ files) × IsUnbroken (declared files)) }
         ensures err { IfErr result (Refuses files) }
     {
-        let classes = match gather_files(alloc, files.items()) {
-            Ok(classes) => classes,
+        let declarations = match Declarations::of(alloc, files) {
+            Ok(declarations) => declarations,
+            Err(fault) => return Err(fault),
+        };
+        let item_classes = match item_classes(alloc, &declarations) {
+            Ok(rows) => rows,
             Err(_) => return Err(ClassFault::OutOfMemory),
         };
-        match first_twice(alloc, files.items(), &classes) {
-            Ok(None) => {}
-            Ok(Some(place)) => return Err(ClassFault::Rule { rule: 10, place }),
-            Err(_) => return Err(ClassFault::OutOfMemory),
-        }
-        if let Some(place) = first_taken(files.items(), &classes) {
-            return Err(ClassFault::Rule { rule: 11, place });
-        }
-        match count(files.items(), &classes) {
-            Some(_) => {}
-            None => return Err(ClassFault::OutOfMemory),
-        }
-        let table = ClassTable { files, classes };
-        if let Some(place) = first_item(&table, Asked::Found) {
+        if let Some(place) = first_item(&declarations, Asked::Found, item_classes.as_slice()) {
             return Err(ClassFault::Rule { rule: 12, place });
         }
-        if let Some(place) = first_item(&table, Asked::Supported) {
+        if let Some(place) = first_item(&declarations, Asked::Supported, item_classes.as_slice()) {
             return Err(ClassFault::Rule { rule: 13, place });
         }
-        Ok(table)
+        Ok(ClassTable {
+            declarations,
+            item_classes,
+        })
     }
 
-    /// How many classes are declared.
+    /// How many classes are declared. They keep the rules on classes.
     pub fn len(&self) -> usize
         ensures count { result ≡ length (declared self.now) }
         ensures small { result < 2 ^ 32 }
+        ensures unbroken { IsUnbroken (declared self.now) }
     {
-        self.classes.list.len()
+        let _ = &self.item_classes;
+        self.declarations.len()
     }
 
     /// The declaration of a class. It takes no memory.
@@ -155,7 +109,7 @@ impl ClassTable {
         requires { class.index < length (declared self.now) }
         ensures { option_map (λ d. d.tree) (slice_get (declared self.now) class.index) ≡ Some result.now }
     {
-        tree_of(self.files.items(), &self.classes.list[class.index as usize])
+        self.declarations.tree(class)
     }
 
     /// The number of a class's file, counted from 0. It takes no memory.
@@ -163,29 +117,37 @@ impl ClassTable {
         requires { class.index < length (declared self.now) }
         ensures { option_map (λ d. d.file) (slice_get (declared self.now) class.index) ≡ Some result }
     {
-        self.classes.list[class.index as usize].file
+        self.declarations.file(class)
+    }
+
+    /// The number of the first item of this name in a class: of a block's items or a package's constants, counted from 0. None where
+    /// there is none. It takes no memory.
+    pub fn item(&self, class: ClassId, name: &[u8]) -> Option<u32>
+        requires { class.index < length (declared self.now) }
+        ensures { result ≡ item_of (declared self.now) class.index name.now }
+    {
+        self.declarations.item(class, name)
+    }
+
+    /// What the class name of the item of this number means in its class. It is known since the table was built, and takes no memory.
+    pub fn item_class(&self, class: ClassId, item: u32) -> Found
+        requires declared { class.index < length (declared self.now) }
+        requires item { IfSome (items_at (declared self.now) class.index) (λ items. item < length items) }
+        ensures { (x : ItemOf) → option_and_then (λ items. slice_get items item) (items_at (declared self.now) class.index) ≡ Some x
+            → class_of (declared self.now) class.index x ≡ Some result }
+    {
+        match self.item_classes[class.index as usize][item as usize] {
+            Some(found) => found,
+            None => Found::Unsupported,
+        }
     }
 
     /// The declared block of this full name: identifiers with points between them. None where rule C14 is broken. It takes no memory.
     pub fn root(&self, name: &str) -> Option<ClassId>
-        ensures { result ≡ block_of (declared self.now) (cut name.now) }
+        ensures block { result ≡ block_of (declared self.now) (cut name.now) }
+        ensures known { IfSome result (IsOf (declared self.now) sort.Block) }
     {
-        let Some(full) = name_at(&self.classes, name.as_bytes()) else {
-            return None;
-        };
-        let Some(number) = first_at(&self.classes, full) else {
-            return None;
-        };
-        let Some(class) = class_at(&self.classes, number) else {
-            return None;
-        };
-        match sort_of(tree_of(self.files.items(), class)) {
-            Sort::Block => Some(ClassId {
-                index: number as u32,
-            }),
-            Sort::Package => None,
-            Sort::Enumeration => None,
-        }
+        self.declarations.root(name)
     }
 
     /// What a class name means in a class, or that it isn't found: the first scope outwards that has the first identifier is taken,
@@ -193,35 +155,21 @@ impl ClassTable {
     /// outwards, where a package is the innermost of its own scopes, and last the top, which has the types too. It takes no memory.
     pub fn resolve(&self, scope: ClassId, name: &Name) -> Option<Found>
         requires { scope.index < length (declared self.now) }
-        ensures { result ≡ option_and_then found_of (meaning (declared self.now) sought.Class scope.index (parts_of name.now)) }
+        ensures meaning { result ≡ option_and_then found_of (meaning (declared self.now) sought.Class scope.index (parts_of name.now)) }
+        ensures known { IsKnown (declared self.now) result }
     {
-        match meaning_of(
-            self.files.items(),
-            &self.classes,
-            Sought::Class,
-            scope.index as usize,
-            name.parts.items(),
-        ) {
-            Some(standing) => found(standing),
-            None => None,
-        }
+        let _ = &self.item_classes;
+        self.declarations.resolve(scope, name)
     }
 
     /// What a value name means in a class, or that it isn't found. It is looked up as a class name is, but a package, as a scope too,
     /// also has its declared constants, and an enumeration has its literals. It takes no memory.
     pub fn resolve_value(&self, scope: ClassId, name: &Name) -> Option<ValueFound>
         requires { scope.index < length (declared self.now) }
-        ensures { result ≡ option_and_then value_of (meaning (declared self.now) sought.Value scope.index (parts_of name.now)) }
+        ensures meaning { result ≡ option_and_then value_of (meaning (declared self.now) sought.Value scope.index (parts_of name.now)) }
+        ensures known { IfSome result (IsValue (declared self.now)) }
     {
-        match meaning_of(
-            self.files.items(),
-            &self.classes,
-            Sought::Value,
-            scope.index as usize,
-            name.parts.items(),
-        ) {
-            Some(standing) => value_found(standing),
-            None => None,
-        }
+        let _ = &self.item_classes;
+        self.declarations.resolve_value(scope, name)
     }
 }

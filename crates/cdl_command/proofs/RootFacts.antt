@@ -5,8 +5,8 @@ use Rattle.std.proofs.lemmas.Option.{slice_get_within}
 use Rattle.cdl_tree.specs.declared.class.ClassTree.{ClassTree}
 use Rattle.cdl_tree.specs.declared.class.FileTree.{FileTree}
 use Rattle.cdl_classes.specs.declared.found.ClassId.{ClassId}
-use Rattle.cdl_classes.specs.declared.lookup.Sort.{Sort}
-use Rattle.cdl_classes.specs.declared.lookup.Sort.TheVariants as sort
+use Rattle.cdl_classes.specs.declared.lookup.ClassSort.{ClassSort}
+use Rattle.cdl_classes.specs.declared.lookup.ClassSort.TheVariants as sort
 use Rattle.cdl_classes.specs.Classes.{Declared, Full, declared}
 use Rattle.cdl_classes.specs.Lookup.{first_of, sort_of}
 use Rattle.cdl_classes.specs.Table.{block_of as block_named, if_block}
@@ -24,7 +24,7 @@ abbrev index_in : Option ClassId → ℕ
 index_in None = 0
 index_in (Some c) = c.index
 
-sorted : (ds : List Declared) (c : ClassId) (i : ℕ) (d : Declared) (k : Sort) → slice_get ds i ≡ Some d → if_block i k ≡ Some c → c.index < length ds
+sorted : (ds : List Declared) (c : ClassId) (i : ℕ) (d : Declared) (k : ClassSort) → slice_get ds i ≡ Some d → if_block i k ≡ Some c → c.index < length ds
 sorted ds c i d sort.Block s e =
     let same : i ≡ c.index = ap index_in e in
     subst (λ n. n < length ds) same (slice_get_within ds i d s)

@@ -1,7 +1,7 @@
 use Rattle.std.proofs.Common.{◌≡◌, ◌+◌, drop, length, ap, arith}
 use Rattle.cdl_classes.specs.Classes.{declared}
-use Rattle.cdl_classes.specs.Gathered.{IsShown}
-use Rattle.cdl_classes.specs.Table.{name_count, names_of, names_in}
+use Rattle.cdl_classes.specs.inner.Gathered.{IsShown}
+use Rattle.cdl_classes.specs.inner.Kept.{name_count, names_of, names_in}
 use Rattle.cdl_classes.proofs.Items.{none_dropped, drop_at}
 use Rattle.cdl_classes.proofs.Lists.{zip_length}
 use Rattle.cdl_classes.proofs.Listing.{listed_at}

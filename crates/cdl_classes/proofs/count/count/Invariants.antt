@@ -1,6 +1,6 @@
 use Rattle.std.proofs.Common.{◌≡◌, ◌+◌, ◌<◌, ◌^◌, drop}
 use Rattle.cdl_classes.specs.Classes.{declared}
-use Rattle.cdl_classes.specs.Table.{name_count, names_of}
+use Rattle.cdl_classes.specs.inner.Kept.{name_count, names_of}
 use Rattle.cdl_classes.proofs.count.count.Given as goal
 
 abbrev pub invariant-loop-class : goal.invariant-loop-class

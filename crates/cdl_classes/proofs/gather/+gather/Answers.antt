@@ -1,22 +1,18 @@
 use Rattle.std.proofs.Common.{rules, ◌≡◌, ◌++◌, ◌∷◌, ◌∙◌, [], List, ℕ, Some, arith, refl, ap}
-use Rattle.std.specs.Prelude.{OnOk, Result}
 use Rattle.std.proofs.lemmas.Result.{on_ok_weaker}
 use Rattle.std.specs.List.{slice_get}
 use Rattle.std.proofs.lemmas.Option.{slice_get_read}
 use Rattle.cdl_tree.specs.declared.class.ClassTree.{ClassTree, the_lemmas}
 use Rattle.cdl_tree.specs.Parts.{classes_of}
-use Rattle.cdl_classes.specs.Gathered.{tree_at}
+use Rattle.cdl_classes.specs.inner.Gathered.{tree_at}
 use Rattle.cdl_classes.proofs.Walk.{tree_at_push, listed_more, after_more, after_class, after_none, same_after, all_taken}
 use Rattle.cdl_classes.proofs.gather.+gather.Goals as goal
-
-whenever : {T E P Q : Type 0} (r : Result T E) → (P → Q) → OnOk r P → OnOk r Q
-whenever r f h = on_ok_weaker r f h
 
 pub gather-returns-in-Package : goal.gather-returns-in-Package
 unfolding classes_of
 gather-returns-in-Package t c =
     let e : classes_of c.args.tree.now ≡ c.items.result.now = search (rules, the_lemmas) in
-    whenever c.gather_all.result (λ more files extra ds q h at tree.
+    on_ok_weaker c.gather_all.result (λ more files extra ds q h at tree.
     let a = c.in_ok-name.ensures files extra ds q h at tree in
     after_class files h.names.paths _ _ extra ds c.args.file q c.args.tree.now _ _ c.items.result.now e a
     (more files extra _ _ a.after.gathered a.at c.args.tree.now tree e)) c.gather_all.ensures

@@ -1,5 +1,5 @@
 use Rattle.std.proofs.Common.{◌∙◌, sym}
-use Rattle.cdl_classes.specs.declared.lookup.Sort.TheVariants as sort
+use Rattle.cdl_classes.specs.declared.lookup.ClassSort.TheVariants as sort
 use Rattle.cdl_classes.specs.Classes.{declared, full}
 use Rattle.cdl_classes.proofs.Standing.{shown_at, enters_class, enters_none, literal_any, not_library}
 use Rattle.cdl_classes.proofs.Finding.{finds_as}

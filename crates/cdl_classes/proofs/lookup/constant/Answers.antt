@@ -2,7 +2,7 @@ use Rattle.std.proofs.Common.{◌∙◌, sym, ap}
 use Rattle.std.specs.Prelude.{option_map}
 use Rattle.std.specs.Option.{option_copied}
 use Rattle.cdl_classes.specs.Lookup.{a_constant}
-use Rattle.cdl_classes.specs.declared.lookup.Sort.TheVariants as sort
+use Rattle.cdl_classes.specs.declared.lookup.ClassSort.TheVariants as sort
 use Rattle.cdl_classes.proofs.Standing.{shown_at, no_class, constant_is}
 use Rattle.cdl_classes.proofs.lookup.constant.Goals as goal
 

@@ -1,6 +1,6 @@
 use Rattle.std.proofs.Common.{◌∙◌, map, sym}
 use Rattle.cdl_classes.specs.Classes.{full, text_of}
-use Rattle.cdl_classes.specs.declared.lookup.Sort.TheVariants as sort
+use Rattle.cdl_classes.specs.declared.lookup.ClassSort.TheVariants as sort
 use Rattle.cdl_classes.proofs.Standing.{shown_at}
 use Rattle.cdl_classes.proofs.Finding.{finds_as}
 use Rattle.cdl_classes.proofs.Meaning.{scoped_name, scoped_outer, meaning_is, meaning_none}
@@ -15,13 +15,22 @@ tree_of-requires c =
     ((d.0).tree, (d.2).tree)
 
 pub lookup-requires : goal.lookup-requires
-lookup-requires c = scoped_name c.args.files.now c.args.all.now c.requires.known c.args.number c.in-Some.class.now c.in-Some.ensures.some
+lookup-requires c = record {
+  scoped = scoped_name c.args.files.now c.args.all.now c.requires.known c.args.number c.in-Some.class.now c.in-Some.ensures.some;
+  outwards = c.requires.outwards;
+}
 
 pub lookup-requires-in-Block : goal.lookup-requires-in-Block
-lookup-requires-in-Block c = scoped_outer c.args.files.now c.args.all.now c.requires.known c.args.number c.in-Some.class.now c.in-Some.ensures.some
+lookup-requires-in-Block c = record {
+  scoped = scoped_outer c.args.files.now c.args.all.now c.requires.known c.args.number c.in-Some.class.now c.in-Some.ensures.some;
+  outwards = c.requires.outwards;
+}
 
 pub lookup-requires-in-Enumeration : goal.lookup-requires-in-Enumeration
-lookup-requires-in-Enumeration c = scoped_outer c.args.files.now c.args.all.now c.requires.known c.args.number c.in-Some.class.now c.in-Some.ensures.some
+lookup-requires-in-Enumeration c = record {
+  scoped = scoped_outer c.args.files.now c.args.all.now c.requires.known c.args.number c.in-Some.class.now c.in-Some.ensures.some;
+  outwards = c.requires.outwards;
+}
 
 pub returns-in-Package : goal.returns-in-Package
 returns-in-Package c = λ h.

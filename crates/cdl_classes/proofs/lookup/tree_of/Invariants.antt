@@ -1,5 +1,5 @@
 use Rattle.std.proofs.Common.{◌≡◌, drop}
-use Rattle.cdl_classes.specs.Gathered.{descend, tree_at}
+use Rattle.cdl_classes.specs.inner.Gathered.{descend, tree_at}
 use Rattle.cdl_classes.proofs.lookup.tree_of.Given as goal
 
 abbrev pub invariant-loop-step : goal.invariant-loop-step

@@ -2,7 +2,7 @@ use Rattle.std.proofs.Common.{◌∙◌, sym, ap, refl}
 use Rattle.std.specs.Map.{lookup}
 use Rattle.cdl_classes.proofs.Entries.{at, lookup-insert}
 use Rattle.cdl_classes.proofs.Firsts.{named_again, named_new}
-use Rattle.cdl_classes.specs.Numbered.{entry}
+use Rattle.cdl_classes.specs.inner.Numbered.{entry}
 use Rattle.cdl_classes.proofs.members.index_name.Goals as goal
 
 pub returns-then-contains_key : goal.returns-then-contains_key

@@ -2,7 +2,7 @@ use Rattle.std.proofs.Common.{◌≡◌, ◌∙◌, ◌++◌, ◌∷◌, ◌<◌
 use Rattle.std.proofs.lemmas.List.{take_more, map-append}
 use Rattle.cdl_tree.specs.declared.name.Ident.{Ident}
 use Rattle.cdl_classes.specs.Classes.{Full, text_of}
-use Rattle.cdl_classes.specs.Numbered.{WithinAdded}
+use Rattle.cdl_classes.specs.inner.Numbered.{WithinAdded}
 use Rattle.cdl_classes.proofs.Walk.{take_whole}
 use Rattle.cdl_classes.proofs.Within.{within_none, within_more}
 use Rattle.cdl_classes.proofs.names.number_parts.Goals as goal

@@ -1,6 +1,6 @@
 use Rattle.std.proofs.Common.{List, map, take}
 use Rattle.cdl_classes.specs.Classes.{Full, text_of}
-use Rattle.cdl_classes.specs.Numbered.{Names, WithinAdded}
+use Rattle.cdl_classes.specs.inner.Numbered.{Names, WithinAdded}
 use Rattle.cdl_classes.proofs.names.number_parts.Given as goal
 
 abbrev pub invariant-loop-part : goal.invariant-loop-part

@@ -1,6 +1,6 @@
 use Rattle.std.proofs.Common.{sym, ap, subst}
 use Rattle.cdl_classes.specs.Classes.{Full, within_of}
-use Rattle.cdl_classes.specs.Numbered.{WithinAdded}
+use Rattle.cdl_classes.specs.inner.Numbered.{WithinAdded}
 use Rattle.cdl_classes.proofs.Within.{within_none}
 use Rattle.cdl_classes.proofs.names.number_within.Goals as goal
 

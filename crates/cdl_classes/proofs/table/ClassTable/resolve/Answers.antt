@@ -1,26 +1,13 @@
-use Rattle.std.proofs.Common.{◌∙◌, ap, sym}
-use Rattle.std.specs.Prelude.{option_and_then}
-use Rattle.cdl_classes.specs.Classes.{declared}
-use Rattle.cdl_classes.specs.declared.lookup.Sought.TheVariants as sought
-use Rattle.cdl_classes.specs.Found.{found_of}
-use Rattle.cdl_classes.proofs.Kept.{known_as, few_as, same_meaning}
-use Rattle.cdl_classes.proofs.Meaning.{small}
+use Rattle.std.proofs.Common.{List, Option, sym, subst}
+use Rattle.cdl_tree.specs.declared.class.FileTree.{FileTree}
+use Rattle.cdl_classes.specs.declared.found.Found.{Found}
+use Rattle.cdl_classes.specs.Classes.{declared, parts_of}
+use Rattle.cdl_classes.specs.Rules.{IsKnown}
+use Rattle.cdl_classes.proofs.Items.{known_meaning}
 use Rattle.cdl_classes.proofs.table.ClassTable.resolve.Goals as goal
 
-pub found-requires : goal.found-requires
-found-requires c =
-    let h = known_as c.self.inside.files c.items.result.now c.self.inside.classes (sym c.items.ensures) c.self.invariant.known in
-    let m = c.in-Some.ensures h in
-    small (declared c.items.result.now) h.gathered.names.paths c.in-Some.standing m.0 sought.Class c.args.scope.index _ (few_as c.self.inside.files c.items.result.now c.items.ensures c.self.invariant.few) m.1 m.2
-
-pub returns-in-Some : goal.returns-in-Some
-returns-in-Some c =
-    let h = known_as c.self.inside.files c.items.result.now c.self.inside.classes (sym c.items.ensures) c.self.invariant.known in
-    let m = c.in-Some.ensures h in
-    c.found.ensures h.gathered.names.paths m.0 m.1 ∙ sym (ap (option_and_then found_of) (same_meaning c.self.inside.files c.items.result.now c.args.self.now sought.Class c.args.scope.index c.args.name.now c.items-2.result.now c.items.ensures c.self.view_is c.items-2.ensures ∙ m.2))
-
-pub returns-in-None : goal.returns-in-None
-returns-in-None c =
-    let h = known_as c.self.inside.files c.items.result.now c.self.inside.classes (sym c.items.ensures) c.self.invariant.known in
-    let m = c.in-None.ensures h in
-    sym (ap (option_and_then found_of) (same_meaning c.self.inside.files c.items.result.now c.args.self.now sought.Class c.args.scope.index c.args.name.now c.items-2.result.now c.items.ensures c.self.view_is c.items-2.ensures ∙ m))
+pub returns-clause-known : goal.returns-clause-known
+returns-clause-known c =
+    let P : Option Found → Type 0 = λ o. IsKnown (declared c.self.inside.declarations) o in
+    let Q : List FileTree → Type 0 = λ fs. IsKnown (declared fs) c.resolve.result in
+    subst Q c.self.view_is (subst P (sym c.resolve.ensures) (known_meaning (declared c.self.inside.declarations) c.args.scope.index (parts_of c.args.name.now)))

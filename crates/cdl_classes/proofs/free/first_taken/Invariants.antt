@@ -1,9 +1,0 @@
-use Rattle.std.proofs.Common.{◌≡◌, None, drop}
-use Rattle.cdl_classes.specs.Classes.{declared}
-use Rattle.cdl_classes.specs.Places.{least}
-use Rattle.cdl_classes.specs.Rules.{taken_of, broken_11}
-use Rattle.cdl_classes.proofs.free.first_taken.Given as goal
-
-abbrev pub invariant-loop-class : goal.invariant-loop-class
-invariant-loop-class l =
-    least l.first (taken_of (declared l.files) (drop l.class-index (declared l.files))) ≡ least None (broken_11 (declared l.files))

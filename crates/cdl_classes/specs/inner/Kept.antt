@@ -1,0 +1,53 @@
+-- What is kept of the files, and of the classes of their items.
+use Rattle.std.specs.Prelude.{◌≡◌, ◌<◌, ◌+◌, ◌^◌, ℕ, Bool, List, [], ◌∷◌, map, length, Option, Some, Vec, slice_get}
+use Rattle.std.specs.declared.alloc.Global.{Global}
+use Rattle.cdl_tree.specs.declared.class.FileTree.{FileTree}
+use Rattle.cdl_tree.specs.declared.class.Item.{Item}
+use Rattle.cdl_tree.specs.Parts.{items_of}
+use Rattle.cdl_classes.specs.declared.found.Found.{Found}
+use Rattle.cdl_classes.specs.declared.gather.Classes.{Classes}
+use Rattle.cdl_classes.specs.declared.item_classes.Asked.{Asked}
+use Rattle.cdl_classes.specs.declared.item_classes.Asked.TheVariants as asked
+use Rattle.cdl_classes.specs.declared.scopes.Outwards.{Outwards}
+use Rattle.cdl_classes.specs.Classes.{Declared, declared}
+use Rattle.cdl_classes.specs.Lookup.{member_names}
+use Rattle.cdl_classes.specs.Rules.{class_of, is_missing, is_unsupported}
+use Rattle.cdl_classes.specs.Verdict.{IsUnbroken}
+use Rattle.cdl_classes.specs.inner.Known.{Known}
+use Rattle.cdl_classes.specs.inner.Scopes.{AreOutwards}
+
+-- the declared names: each class, and the names in it
+abbrev pub names_in : Declared → ℕ
+names_in d = 1 + length (member_names d.tree)
+
+abbrev pub names_of : List Declared → ℕ
+names_of [] = 0
+names_of (d ∷ ds) = names_in d + names_of ds
+
+abbrev pub name_count : List FileTree → ℕ
+name_count files = names_of (declared files)
+
+-- the declared classes of these files are kept, with their scopes, and their names can be counted
+pub record AreKept (files : List FileTree) (all : Classes) (os : List Outwards) : Type 0 where
+  pub known : Known files all
+  pub outwards : AreOutwards files all os
+  pub few : name_count files < 2 ^ 32
+
+-- what the class names of these items of the class of this number mean
+abbrev pub classes_of : List Declared → ℕ → List Item → List (Option Found)
+classes_of ds number items = map (class_of ds number) items
+
+-- these are what the class names of the items mean, class by class
+pub record AreItemClasses (ds : List Declared) (rows : List (Vec (Option Found) Global)) : Type 0 where
+  pub size : length rows ≡ length ds
+  pub each : (i : ℕ) (d : Declared) (row : Vec (Option Found) Global) → slice_get ds i ≡ Some d → slice_get rows i ≡ Some row → row.items ≡ classes_of ds i (items_of d.tree)
+
+-- what is asked of an item
+abbrev pub test_of : Asked → List Declared → ℕ → Item → Bool
+test_of asked.Found = is_missing
+test_of asked.Supported = is_unsupported
+
+-- what a table keeps: the rules are kept by the files, and the class of each item is known
+pub record IsTable (files : List FileTree) (rows : List (Vec (Option Found) Global)) : Type 0 where
+  pub unbroken : IsUnbroken (declared files)
+  pub classes : AreItemClasses (declared files) rows
