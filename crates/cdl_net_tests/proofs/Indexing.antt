@@ -14,7 +14,7 @@ parent_some : (o : Option NetInstance) (p : ℕ) → parent_of o ≡ Some p → 
 parent_some None p e = absurd (cc)
 parent_some (Some t) p e = (t, refl, e)
 
-pub indexed_of : (n : Net) → (length n.instances ≤ MOST_INSTANCES) × (length n.elements ≤ MOST_INSTANCES0) × (length n.wires ≤ MOST_WIRES)
+pub indexed_of : (n : Net) → (length n.instances ≤ MOST_INSTANCES) × (length n.elements ≤ MOST_ELEMENTS) × (length n.wires ≤ MOST_WIRES)
     → ((i : ℕ) (t : NetInstance) → i < length n.instances → slice_get n.instances i ≡ Some t → IsFineInstance n i t)
     → ((x : ℕ) → x < length n.elements → IsFineElement n x)
     → ((k : ℕ) (w : RawWire) → k < length n.wires → slice_get n.wires k ≡ Some w → IsFineWire n w)
