@@ -20,6 +20,3 @@ mod tokens;
 pub use keywords::is_keyword;
 pub use lexer::{LexFault, lex};
 pub use tokens::Tokens;
-
-#[cfg(test)]
-mod tests;

@@ -91,6 +91,3 @@ fn broken(tokens: &Tokens, rule: u32, byte: u32) -> ParseFault
         },
     }
 }
-
-#[cfg(test)]
-mod tests;

@@ -3,3 +3,9 @@
 
 #[cfg(test)]
 mod classes;
+#[cfg(test)]
+mod literals;
+#[cfg(test)]
+mod sentences;
+#[cfg(test)]
+mod tokens;

@@ -15,6 +15,3 @@ pub use expr::{Expr, Node, Op};
 pub use kind::{Kind, kind_of};
 pub use literal::{integer, string};
 pub use name::{Ident, Name};
-
-#[cfg(test)]
-mod tests;

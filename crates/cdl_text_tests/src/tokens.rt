@@ -1,4 +1,5 @@
-use super::*;
+// Tokens, and the rules of texts that are broken first, with their bytes.
+use cdl_lex::{LexFault, lex};
 use cdl_source::{Place, Sort, Span, Token};
 use std::alloc::Global;
 use std::test::Fail;

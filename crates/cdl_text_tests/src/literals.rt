@@ -1,5 +1,6 @@
-use super::*;
+// Values of literals, and the terminals of the grammar.
 use cdl_source::Sort;
+use cdl_tree::{Kind, integer, kind_of, string};
 use std::test::Fail;
 
 #[test]

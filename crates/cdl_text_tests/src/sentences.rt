@@ -1,6 +1,8 @@
-use super::*;
+// Texts that have a tree, and those that have none with the places at which they are refused.
 use cdl_lex::lex;
-use cdl_source::{Span, Text};
+use cdl_parse::{ParseFault, parse};
+use cdl_source::{Place, Span, Text};
+use std::alloc::Global;
 use std::test::Fail;
 
 // The rule and the byte at which a text is refused, or None where it has a tree.
