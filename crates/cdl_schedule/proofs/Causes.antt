@@ -1,5 +1,5 @@
 -- Where an element has its value from, and what an instance takes.
-use Rattle.std.proofs.Common.{ℕ, zero, suc, ◌+◌, ◌-◌, ◌<◌, ◌≤◌, ◌≡◌, ◌⊎◌, ◌&&◌, ◌==◌, refl, sym, ap, ◌∙◌, subst, arith, Bool, true, false, cond, not, inl, inr, List, [], ◌∷◌, ◌++◌, length, get_or, set, map, filter, Option, Some, None, slice_get}
+use Rattle.std.proofs.Common.{ℕ, ◌+◌, ◌-◌, ◌<◌, ◌≤◌, ◌≡◌, ◌&&◌, refl, sym, ap, ◌∙◌, subst, arith, Bool, true, cond, not, inl, inr, List, [], ◌∷◌, ◌++◌, length, get_or, set, Option, Some, None, slice_get}
 use Rattle.std.specs.Prelude.{nat_le, nat_lt}
 use Rattle.std.proofs.lemmas.Bool.{false≢true, cases_eq, eqb-true, eq-eqb, lt-ltb, ltb-true, leb-true, le-leb}
 use Rattle.std.proofs.lemmas.List.{get_or-set_same, get_or-set_other, length-set}
@@ -9,7 +9,7 @@ use Rattle.cdl_kinds.specs.declared.kind.Kind.TheVariants.{LogicalPre, DiscreteU
 use Rattle.cdl_kinds.specs.Ports.{ports}
 use Rattle.cdl_network.specs.Dependence.{Origin, Row, From, Out, HasOrigin, direct_of, root_inputs, outputs_of, is_of, is_root_input}
 use Rattle.cdl_network.specs.Lists.{In, has_some}
-use Rattle.cdl_network.specs.Rules.{is_wanted, sink_of, source_of}
+use Rattle.cdl_network.specs.Rules.{is_wanted, sink_of}
 use Rattle.cdl_network.proofs.Checking.{count_one, arrives_once, one_origin, slice_in}
 use Rattle.cdl_network.proofs.Inside.{kept_in, kept_true, and_both, in_slice}
 use Rattle.cdl_network.proofs.Numbers.{bool_cases}
@@ -23,7 +23,7 @@ use Rattle.cdl_connect.specs.declared.net.Body.{Body}
 use Rattle.cdl_connect.specs.declared.net.Body.TheVariants.{Composite, Elementary}
 use Rattle.cdl_connect.specs.Faults.{IsChecked}
 use Rattle.cdl_connect.specs.Nets.{network_of, element, wire_in, is_block, is_elementary, is_direct_at, is_direct_port}
-use Rattle.cdl_schedule.specs.inner.Rows.{AreRows, AreSources, IsGiven, Precedes, added, cause_of, is_direct_body, vertex_count, vertex_of, wire_sink, wire_source}
+use Rattle.cdl_schedule.specs.inner.Rows.{AreRows, AreSources, Precedes, added, cause_of, is_direct_body, vertex_count, vertex_of, wire_sink, wire_source}
 use Rattle.cdl_schedule.proofs.Building.{by_lt, rows_pass, rows_add, rows_next, rows_end}
 use Rattle.cdl_schedule.proofs.Loops.{has_inside, direct_are, precedes_inside}
 
@@ -68,7 +68,7 @@ from_source n sources x f a h w =
     let k = slice_in v.0 n.wires v.1 in
     let end : wire_sink n v.0 ≡ x = ap (sink_of (network_of n)) (sym v.2) ∙ eqb-true (sink_of (network_of n) c.0) x c.2 in
     let o = a.each k.0 v.0 (slice_get_within n.wires k.0 v.0 k.1) k.1 in
-    (wire_source n o.1, (wire_in o.1, in_map wire_in o.1 n.wires (in_slice n.wires o.0 o.1 o.2), refl, o.3 ∙ end), ap (λ z. get_or sources z 0) (sym end) ∙ o.4)
+    (wire_source n o.1, (wire_in o.1, in_map wire_in o.1 n.wires (in_slice n.wires o.0 o.1 o.2), refl {a = wire_source n o.1}, o.3 ∙ end), ap (λ z. get_or sources z 0) (sym end) ∙ o.4)
 
 pub cause_is : (n : Net) (sources : List ℕ) (x : ℕ) → IsChecked n → AreSources n (length n.wires) sources → x < length n.elements → (c : Origin ℕ ℕ) × HasOrigin (network_of n) x c × (vertex_of (length n.elements) c ≡ cause_of n sources x)
 cause_is n sources x f a h =

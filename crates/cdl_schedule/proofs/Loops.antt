@@ -1,5 +1,5 @@
 -- Walks of a net and of its rows.
-use Rattle.std.proofs.Common.{ℕ, zero, suc, ◌+◌, ◌<◌, ◌≤◌, ◌≡◌, ◌⊎◌, refl, sym, ap, ◌∙◌, subst, arith, true, inl, inr, List, length, get_or, Option, Some, None, slice_get, Result, Ok, Err}
+use Rattle.std.proofs.Common.{ℕ, zero, suc, ◌+◌, ◌<◌, ◌≤◌, ◌≡◌, refl, sym, ap, ◌∙◌, subst, arith, true, inl, inr, List, length, get_or, Option, Some, None, slice_get, Result, Ok, Err}
 use Rattle.std.specs.Prelude.{◌-◌, IfOk, IfErr, OnOk}
 use Rattle.std.proofs.lemmas.Bool.{false≢true}
 use Rattle.std.proofs.lemmas.List.{get_or_past}
@@ -10,10 +10,9 @@ use Rattle.cdl_search.specs.Order.{IsOrder, IsSearchFault}
 use Rattle.cdl_search.specs.declared.order.SearchFault.{SearchFault}
 use Rattle.cdl_search.specs.declared.order.SearchFault.TheVariants.{Loop, OutOfMemory}
 use Rattle.cdl_search.specs.Walks as walks
-use Rattle.cdl_network.specs.Closed.{Closed}
-use Rattle.cdl_network.specs.Dependence.{Origin, Row, From, Out, HasOrigin, Reads, Determines, Walk, OnLoop, HasLoop, FirstLoop, NoLoop, direct_of, outputs_of}
+use Rattle.cdl_network.specs.Dependence.{Origin, Row, From, Out, HasOrigin, Reads, Determines, Walk, OnLoop, FirstLoop, NoLoop, direct_of}
 use Rattle.cdl_network.specs.Lists.{In, numbers}
-use Rattle.cdl_network.proofs.Inside.{origin_inside, reads_inside, direct_inside, source_inside}
+use Rattle.cdl_network.proofs.Inside.{origin_inside, reads_inside, direct_inside}
 use Rattle.cdl_network.proofs.Places.{of_slice_numbers, slice_numbers}
 use Rattle.cdl_connect.proofs.Networks.{below_all, in_all, net_closed}
 use Rattle.cdl_search.proofs.Walking.{walk_from}
@@ -23,7 +22,7 @@ use Rattle.cdl_connect.specs.declared.net.NetElement.{NetElement}
 use Rattle.cdl_connect.specs.declared.net.NetInstance.{NetInstance}
 use Rattle.cdl_connect.specs.Faults.{IsChecked}
 use Rattle.cdl_connect.specs.Nets.{network_of, element, no_element, is_elementary}
-use Rattle.cdl_schedule.specs.inner.Rows.{AreRows, Precedes, IsGiven, IsTaken, vertex_of, vertex_count}
+use Rattle.cdl_schedule.specs.inner.Rows.{AreRows, Precedes, vertex_of, vertex_count}
 
 number_at : (n k : ℕ) → k < n → slice_get (numbers 0 n) k ≡ Some k
 number_at n k h = let e : 0 + k ≡ k = omega arith in slice_numbers 0 n k h ∙ ap Some e

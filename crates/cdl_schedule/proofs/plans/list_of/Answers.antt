@@ -1,4 +1,3 @@
-use Rattle.std.proofs.Common.{subst, sym}
 use Rattle.cdl_schedule.proofs.Listing.{plan_of, order_read}
 use Rattle.cdl_schedule.proofs.plans.list_of.Goals as goal
 
