@@ -2,10 +2,10 @@
 ghost use Rattle.std.specs.Prelude.{◌≡◌, ◌+◌, ◌<◌, ◌≤◌, ◌^◌, ◌==◌, ℕ, List, length, IfSome, IfNone, IfOk, IfErr, OnOk, OnErr, get_or, slice_get};
 ghost use Rattle.std.specs.Option.{option_map};
 ghost use Rattle.cdl_network.specs.Lists.{count};
-ghost use Rattle.cdl_network.specs.Rules.{is_some_same, is_source, is_sink, sink_of, same_type, has_unit, units_differ, wire_fault, is_wanted, fault_by};
+ghost use Rattle.cdl_network.specs.Rules.{is_some_same, is_source, is_sink, sink_of, source_of, same_type, has_unit, units_differ, wire_fault, is_wanted, fault_by};
 ghost use Rattle.cdl_connect.specs.Nets.{parent_of, network_of, wire_in};
 ghost use Rattle.cdl_connect.specs.WellFormed.{IsIndexed};
-ghost use Rattle.cdl_connect.specs.Faults.{FineWires, IsFault, IsUnbroken};
+ghost use Rattle.cdl_connect.specs.Faults.{FineWires, IsChecked, IsFault, IsUnbroken};
 ghost use Rattle.cdl_connect.specs.inner.Numbers.{wire_rule, sink_rule, fault_at_wire, fault_at_element, endings};
 
 use crate::faults::{NetFault, NetRefusal, SinkFault, WireFault};
@@ -74,8 +74,8 @@ fn is_sink(net: &Net, scope: u32, x: u32) -> bool
     }
 }
 
-// The end of a wire that is its sink.
-fn sink_end(net: &Net, w: &RawWire) -> u32
+/// The end of a wire that is its sink: the right one where the left is a source of its scope and the right a sink, else the left.
+pub fn sink_end(net: &Net, w: &RawWire) -> u32
     requires ends { (w.now.left < length net.now.elements) × (w.now.right < length net.now.elements) }
     ensures end { result ≡ sink_of (network_of net.now) (wire_in w.now) }
     ensures inside { result < length net.now.elements }
@@ -85,6 +85,16 @@ fn sink_end(net: &Net, w: &RawWire) -> u32
     } else {
         w.left
     }
+}
+
+/// The other end: its source, in a checked net.
+pub fn source_end(net: &Net, w: &RawWire) -> u32
+    requires ends { (w.now.left < length net.now.elements) × (w.now.right < length net.now.elements) }
+    ensures end { result ≡ source_of (network_of net.now) (wire_in w.now) }
+    ensures inside { result < length net.now.elements }
+{
+    let forth = is_source(net, w.scope, w.left) && is_sink(net, w.scope, w.right);
+    if forth { w.left } else { w.right }
 }
 
 fn same_type(a: ValueType, b: ValueType) -> bool
@@ -283,7 +293,8 @@ impl Net {
 impl CheckedNet {
     /// The net that was checked, as it was given. It takes no memory.
     pub fn net(&self) -> &Net
-        ensures { result.now ≡ self.now }
+        ensures same { result.now ≡ self.now }
+        ensures checked { IsChecked self.now }
     {
         &self.net
     }

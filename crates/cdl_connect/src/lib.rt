@@ -6,7 +6,7 @@ mod faults;
 mod laws;
 mod net;
 
-pub use check::CheckedNet;
+pub use check::{CheckedNet, sink_end, source_end};
 pub use faults::{NetFault, NetRefusal};
 pub use laws::{checked_has_one, first_by_place, net_is_a_network};
 pub use net::{Body, Net, NetElement, NetInstance, RawWire};

@@ -1,0 +1,3 @@
+pub mod NetPlan
+pub mod Plans
+pub mod inner

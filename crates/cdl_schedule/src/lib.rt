@@ -1,0 +1,8 @@
+//! The order of a tick: each elementary instance of a checked net once, behind all on which its direct inputs depend; or the
+//! first instance on a loop.
+#![tactic(auto)]
+
+mod plans;
+mod rows;
+
+pub use plans::{OrderFault, OrderRefusal, Plan, order};
