@@ -8,4 +8,6 @@ pub use builder::net_of;
 pub use numbers::indexed;
 
 #[cfg(test)]
+mod order;
+#[cfg(test)]
 mod tests;
