@@ -4,7 +4,7 @@ use Rattle.std.proofs.Math.Seq.{drop-cons}
 use Rattle.std.specs.Prelude.{pos}
 use Rattle.std.proofs.lemmas.Int.{ints}
 use Rattle.cdl_decimal.specs.Near.{InRange}
-use Rattle.cdl_kinds.specs.History.{word}
+use Rattle.cdl_values.specs.History.{word}
 use Rattle.cdl_kinds.specs.Meaning.Integers.{greater_of, lesser_of}
 use Rattle.cdl_kinds.specs.Meaning.Reals.{greatest, least}
 

@@ -3,7 +3,7 @@ use Rattle.std.specs.Prelude.{ℤ, pos, ◌+ℤ◌, ◌-ℤ◌, ◌*ℤ◌, unsi
 use Rattle.std.specs.Int.RustNames.{int_le, int_lt}
 use Rattle.std.specs.Ordering.{int_eq}
 use Rattle.cdl_decimal.specs.Counts.{dot}
-use Rattle.cdl_kinds.specs.History.{History, Meaning, tick, word, bit, flag, integer, before, rises}
+use Rattle.cdl_values.specs.History.{History, Meaning, tick, word, bit, flag, integer, before, rises}
 
 abbrev pub magnitude : ℤ → ℤ
 magnitude a = pos (unsigned_abs a)

@@ -2,7 +2,7 @@
 use Rattle.std.specs.Prelude.{ℤ, pos, ◌+ℤ◌, ◌-ℤ◌, Bool, cond, List, [], ◌∷◌, Option, Some}
 use Rattle.std.specs.Int.RustNames.{int_le, int_lt}
 use Rattle.cdl_decimal.specs.Counts.{real_add, real_mul, real_line, real_weighted_sum, real_mean}
-use Rattle.cdl_kinds.specs.History.{History, Meaning, word, flag, one}
+use Rattle.cdl_values.specs.History.{History, Meaning, word, flag, one}
 use Rattle.cdl_kinds.specs.Meaning.Integers.{magnitude, greater_of, lesser_of}
 
 abbrev pub absolute : ℤ → Option ℤ
