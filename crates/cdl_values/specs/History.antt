@@ -59,7 +59,7 @@ integers n = record { count = n; value_type = λ _. Integer; direct = λ _. true
 abbrev pub reals : ℕ → Signature
 reals n = record { count = n; value_type = λ _. Real; direct = λ _. true }
 
--- the type of that number; past the last it is the last
+-- the type of that number, and past the last one the last
 abbrev pub nth_type : List ValueType → ℕ → ValueType
 nth_type [] i = Boolean
 nth_type (t ∷ []) i = t
