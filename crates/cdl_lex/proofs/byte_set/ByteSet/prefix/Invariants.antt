@@ -1,7 +1,7 @@
 use Rattle.std.proofs.Common.{◌≡◌, ◌+◌, ◌-◌, ◌≤◌, length, drop}
 use Rattle.std.specs.List.{prefix_len}
-use Rattle.cdl_lex.specs.Classes.{is_in}
-use Rattle.cdl_lex.proofs.class.Class.prefix.Given as goal
+use Rattle.cdl_lex.specs.ByteSets.{is_in}
+use Rattle.cdl_lex.proofs.byte_set.ByteSet.prefix.Given as goal
 
 abbrev pub invariant-loop-size : goal.invariant-loop-size
 invariant-loop-size l =

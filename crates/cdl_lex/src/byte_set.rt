@@ -1,13 +1,15 @@
 // Sets of bytes, and how far bytes stay in one.
 ghost use Rattle.std.specs.Prelude.{◌≡◌, ◌≤◌, length};
 ghost use Rattle.std.specs.List.{prefix_len};
-ghost use Rattle.cdl_lex.specs.Classes.{is_in};
+ghost use Rattle.cdl_lex.specs.ByteSets.{is_in};
+
+use cdl_source::{is_digit, is_initial, is_word_byte};
 
 const FORM_FEED: u8 = 12;
 
 /// A set of bytes.
 #[derive(Clone, Copy)]
-pub(crate) enum Class {
+pub(crate) enum ByteSet {
     /// What stands between tokens.
     Blank,
     /// What an identifier begins with.
@@ -19,20 +21,20 @@ pub(crate) enum Class {
     Inner,
 }
 
-impl Class {
+impl ByteSet {
     pub(crate) fn has(self, byte: u8) -> bool
         ensures { result ≡ is_in self byte }
     {
         match self {
-            Class::Blank => matches!(byte, b' ' | b'\t' | b'\r' | b'\n' | FORM_FEED),
-            Class::Initial => byte.is_ascii_alphabetic() || byte == b'_',
-            Class::Word => byte.is_ascii_alphanumeric() || byte == b'_',
-            Class::Digit => byte.is_ascii_digit(),
-            Class::Inner => byte != b'\n',
+            ByteSet::Blank => matches!(byte, b' ' | b'\t' | b'\r' | b'\n' | FORM_FEED),
+            ByteSet::Initial => is_initial(byte),
+            ByteSet::Word => is_word_byte(byte),
+            ByteSet::Digit => is_digit(byte),
+            ByteSet::Inner => byte != b'\n',
         }
     }
 
-    // How many bytes from the front on are of the class.
+    // How many bytes from the front on are in the set.
     pub(crate) fn prefix(self, bytes: &[u8]) -> usize
         ensures size { result ≡ prefix_len (is_in self) bytes.now }
         ensures within { result ≤ length bytes.now }
