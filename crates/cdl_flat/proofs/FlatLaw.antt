@@ -21,7 +21,7 @@ use Rattle.cdl_flat.specs.Ends.{end_of, given_type, taken_type}
 use Rattle.cdl_flat.specs.Flat.{IsTyped, IsForward, IsFlat}
 use Rattle.cdl_flat.specs.Solution.{port_ref}
 use Rattle.cdl_flat.specs.Declaring.{is_simple, declare_all}
-use Rattle.cdl_flat.specs.Joining.{has_place, input_place, edge_of, edge_between, straight_end, no_joins, join_all, are_joined, are_fed, is_full}
+use Rattle.cdl_flat.specs.Joining.{has_place, input_place, edge_of, edge_between, straight_end, no_joins, join_each, are_joined, are_fed, is_full}
 use Rattle.cdl_flat.specs.Nets.{HasEdge, IsNet, IsFound}
 use Rattle.cdl_flat.proofs.ListFacts.{both, at-lt, lt-at, at-map, map-at, push-old, push-new}
 use Rattle.cdl_flat.proofs.PlainFacts.{few_inputs}
@@ -339,26 +339,26 @@ too-many items parts connects o d size one some many flat =
     omega arith
 
 pub not-joined : (items : List Item) (parts : List (Option Part)) (connects : List Connect) (o : Option Declarations) (d : Declarations) (j : Option (List (Option Source))) → length items ≡ length parts
-    → o ≡ declare_all nothing_declared items parts → o ≡ Some d → j ≡ join_all d (no_joins d) connects → j ≡ None → IsFlat items parts connects → ⊥
+    → o ≡ declare_all nothing_declared items parts → o ≡ Some d → j ≡ join_each d (no_joins d) connects → j ≡ None → IsFlat items parts connects → ⊥
 not-joined items parts connects o d j size one some two none flat =
     let f = flat-found items parts connects size flat in
     let same = same-declared items parts connects o d f.0 one some f.1 in
-    let is : join_all d (no_joins d) connects ≡ Some f.0 = subst (λ (x : Declarations). join_all x (no_joins x) connects ≡ Some f.0) same f.1.joined in
+    let is : join_each d (no_joins d) connects ≡ Some f.0 = subst (λ (x : Declarations). join_each x (no_joins x) connects ≡ Some f.0) same f.1.joined in
     cc (two, none, is)
 
 pub not-full : (items : List Item) (parts : List (Option Part)) (connects : List Connect) (o : Option Declarations) (d : Declarations) (joins given : List (Option Source)) (b : Bool) → length items ≡ length parts
-    → o ≡ declare_all nothing_declared items parts → o ≡ Some d → Some joins ≡ join_all d (no_joins d) connects → given ≡ joins → b ≡ is_full d given → b ≡ false → IsFlat items parts connects → ⊥
+    → o ≡ declare_all nothing_declared items parts → o ≡ Some d → Some joins ≡ join_each d (no_joins d) connects → given ≡ joins → b ≡ is_full d given → b ≡ false → IsFlat items parts connects → ⊥
 not-full items parts connects o d joins given b size one some two lent three no_more flat =
     let f = flat-found items parts connects size flat in
     let same = same-declared items parts connects o d f.0 one some f.1 in
-    let is : join_all d (no_joins d) connects ≡ Some f.0 = subst (λ (x : Declarations). join_all x (no_joins x) connects ≡ Some f.0) same f.1.joined in
+    let is : join_each d (no_joins d) connects ≡ Some f.0 = subst (λ (x : Declarations). join_each x (no_joins x) connects ≡ Some f.0) same f.1.joined in
     let full : is_full d f.0 ≡ true = subst (λ (x : Declarations). is_full x f.0 ≡ true) same f.1.full in
     let js : joins ≡ f.0 = cc (two, is) in
     let also : is_full d given ≡ true = ap (is_full d) (lent ∙ js) ∙ full in
     false≢true (sym no_more ∙ three ∙ also)
 
 pub all-found : (items : List Item) (parts : List (Option Part)) (connects : List Connect) (o : Option Declarations) (d : Declarations) (joins given : List (Option Source)) (b : Bool)
-    → o ≡ declare_all nothing_declared items parts → o ≡ Some d → length d.components ≤ 19999 → Some joins ≡ join_all d (no_joins d) connects → given ≡ joins → b ≡ is_full d given → b ≡ true
+    → o ≡ declare_all nothing_declared items parts → o ≡ Some d → length d.components ≤ 19999 → Some joins ≡ join_each d (no_joins d) connects → given ≡ joins → b ≡ is_full d given → b ≡ true
     → IsFound items parts connects d joins
 all-found items parts connects o d joins given b one some few two lent three more = record {
   declared = sym one ∙ some;
