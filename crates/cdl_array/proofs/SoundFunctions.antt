@@ -13,7 +13,7 @@ use Rattle.cdl_values.specs.declared.value.ValueType.TheVariants.{Integer as Int
 use Rattle.std.proofs.lemmas.List.{length-replicate, length-drop, length-take-le, take-append-drop}
 use Rattle.std.proofs.lemmas.List.Elements.{All-nil, All-cons, All-head, All-tail, All-replicate, All-take, All-drop}
 use Rattle.cdl_decimal.specs.Counts.{floor_whole}
-use Rattle.cdl_kinds.specs.Meaning.Reals.{least, greatest}
+use Rattle.cdl_values.specs.Extremes.{least, greatest}
 use Rattle.cdl_array.specs.declared.numbers.Numbers.{Numbers}
 use Rattle.cdl_array.specs.declared.numbers.Numbers.TheVariants.{Integers, Reals}
 use Rattle.cdl_array.specs.declared.functions.Function.{Function}

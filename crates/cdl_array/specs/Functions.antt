@@ -5,7 +5,7 @@ use Rattle.std.specs.Str.{bytes_eq}
 use Rattle.cdl_decimal.specs.Near.{in_range}
 use Rattle.cdl_decimal.specs.Counts.{real_floor_integer, total}
 use Rattle.cdl_values.specs.Values.{integer_of, real_of}
-use Rattle.cdl_kinds.specs.Meaning.Reals.{least, greatest}
+use Rattle.cdl_values.specs.Extremes.{least, greatest}
 use Rattle.cdl_values.specs.declared.value.Array.{Array}
 use Rattle.cdl_values.specs.declared.value.Value.{Value}
 use Rattle.cdl_values.specs.declared.value.Value.TheVariants.{Integer, Real}

@@ -2,8 +2,8 @@
 ghost use Rattle.std.specs.Prelude.{◌≡◌, ℤ, ◌*◌, ◌≤◌, ◌<◌, ◌^◌, length, unsigned_abs, replicate, IfOk, MatchResult, Ok, Err};
 ghost use Rattle.cdl_decimal.specs.Near.{InRange, in_range};
 ghost use Rattle.cdl_decimal.specs.Counts.{total};
-ghost use Rattle.cdl_kinds.specs.Meaning.Reals.{least, greatest};
-ghost use Rattle.cdl_kinds.specs.Meaning.Integers as counts;
+ghost use Rattle.cdl_values.specs.Extremes.{least, greatest};
+ghost use Rattle.cdl_values.specs.Extremes as counts;
 ghost use Rattle.cdl_array.specs.Outcomes.{Answers};
 ghost use Rattle.cdl_array.specs.Numbers as pairs;
 ghost use Rattle.cdl_array.specs.Functions as spec;

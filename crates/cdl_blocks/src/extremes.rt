@@ -2,7 +2,8 @@
 ghost use Rattle.std.specs.Prelude.{◌≡◌, ◌<◌, ◌≤◌, ℕ, length};
 ghost use Rattle.cdl_decimal.specs.Near.{InRange};
 ghost use Rattle.cdl_values.specs.History.{reals, word};
-ghost use Rattle.cdl_kinds.specs.Meaning.Reals.{extreme, greatest, least};
+ghost use Rattle.cdl_kinds.specs.Meaning.Reals.{extreme};
+ghost use Rattle.cdl_values.specs.Extremes.{greatest, least};
 ghost use Rattle.cdl_blocks.specs.AtOnce.{at_once};
 ghost use Rattle.cdl_blocks.specs.Extremes.{extreme_function};
 

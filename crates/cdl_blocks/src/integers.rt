@@ -2,7 +2,8 @@
 ghost use Rattle.std.specs.Prelude.{◌≡◌, ◌≤◌, ◌*ℤ◌, [], ◌∷◌, unsigned_abs, ◌^◌, ◌<◌};
 ghost use Rattle.cdl_values.specs.declared.value.ValueType.TheVariants.{Integer};
 ghost use Rattle.cdl_values.specs.History.{booleans, integers, typed};
-ghost use Rattle.cdl_kinds.specs.Meaning.Integers.{compare, compare_threshold, greater_of, integer_of_two, lesser_of};
+ghost use Rattle.cdl_kinds.specs.Meaning.Integers.{compare, compare_threshold, integer_of_two};
+ghost use Rattle.cdl_values.specs.Extremes.{greater_of, lesser_of};
 ghost use Rattle.cdl_blocks.specs.AtOnce.{at_once};
 ghost use Rattle.cdl_blocks.specs.Integers.{comparison_function, integer_function, integer_with};
 

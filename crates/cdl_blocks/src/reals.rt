@@ -2,7 +2,7 @@
 ghost use Rattle.std.specs.Prelude.{◌≡◌, [], ◌∷◌};
 ghost use Rattle.cdl_values.specs.declared.value.ValueType.TheVariants.{Real};
 ghost use Rattle.cdl_values.specs.History.{reals, typed};
-ghost use Rattle.cdl_kinds.specs.Meaning.Integers.{greater_of, lesser_of};
+ghost use Rattle.cdl_values.specs.Extremes.{greater_of, lesser_of};
 ghost use Rattle.cdl_kinds.specs.Meaning.Reals.{limited, limiter, line_through, real_of_two};
 ghost use Rattle.cdl_blocks.specs.AtOnce.{at_once};
 ghost use Rattle.cdl_blocks.specs.Reals.{magnitude_meaning, magnitude_sort, real_function, real_with};

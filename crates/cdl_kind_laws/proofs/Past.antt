@@ -10,7 +10,7 @@ use Rattle.cdl_decimal.specs.Near.{InRange}
 use Rattle.cdl_values.specs.declared.value.ValueType.TheVariants.{Real}
 use Rattle.cdl_values.specs.History.{History, Signature, IsHistory, IsLater, IsTime, Meaning, Tick, is_on, last_time, rises, word}
 use Rattle.cdl_kinds.specs.Meaning.Discrete.{caught, first_or, interval, picked, picks, sampled, samples, second_or}
-use Rattle.cdl_kinds.specs.Meaning.Reals.{greatest}
+use Rattle.cdl_values.specs.Extremes.{greatest}
 use Rattle.cdl_kinds.specs.Meaning.Timers.{Held, accumulated, began, elapsed, held, held_from, or_now, run_length}
 use Rattle.cdl_kinds.specs.States.{IsIntervalUpTo, IsTimeUpTo, last_interval, time_word}
 use Rattle.cdl_kind_laws.proofs.ValueWords.{EachReal, before_value}

@@ -11,7 +11,8 @@ use Rattle.cdl_values.specs.declared.value.ValueType.TheVariants.{Boolean, Integ
 use Rattle.cdl_kinds.specs.Conditions.{Keeps}
 use Rattle.cdl_values.specs.History.{AreValues, History, Signature, IsHistory, IsLater, IsTime, IsValue, Meaning, Tick, bit, is_on, tick, word}
 use Rattle.cdl_kinds.specs.Meaning.Discrete.{picked, sampled}
-use Rattle.cdl_kinds.specs.Meaning.Integers.{counted, greater_of, lesser_of, magnitude}
+use Rattle.cdl_kinds.specs.Meaning.Integers.{counted, magnitude}
+use Rattle.cdl_values.specs.Extremes.{greater_of, lesser_of}
 use Rattle.cdl_kinds.specs.Meaning.Reals.{limited}
 use Rattle.cdl_kinds.specs.Meaning.Timers.{began}
 use Rattle.cdl_kinds.specs.Meanings.{meaning}

@@ -10,7 +10,7 @@ use Rattle.cdl_decimal.specs.Near.{InRange, in_integer_range, in_range, modulo_o
 use Rattle.cdl_values.specs.declared.value.ValueType.{ValueType}
 use Rattle.cdl_values.specs.declared.value.ValueType.TheVariants.{Boolean, Integer, Real}
 use Rattle.cdl_values.specs.History.{AreValues, Signature, IsTime, IsValue, bit, flag, integer, one, typed, word}
-use Rattle.cdl_kinds.specs.Meaning.Reals.{least}
+use Rattle.cdl_values.specs.Extremes.{least}
 use Rattle.cdl_kind_laws.proofs.Past.{IsAdded}
 use Rattle.cdl_kind_laws.proofs.ValueWords.{EachReal, bit_value, one_word, three_values, two_values}
 

@@ -1,5 +1,5 @@
 -- The Integers among the values of a kind's parameters are in range.
-use Rattle.std.proofs.Common.{ℕ, zero, suc, ◌≤◌, ℤ, List, [], ◌∷◌, refl, arith}
+use Rattle.std.proofs.Common.{ℕ, zero, suc, ◌≤◌, ℤ, List, [], ◌∷◌, arith}
 use Rattle.std.specs.Prelude.{unsigned_abs, pos, slice_index_or, All}
 use Rattle.cdl_values.specs.declared.value.Array.{Array}
 use Rattle.cdl_values.specs.declared.value.Value.{Value}

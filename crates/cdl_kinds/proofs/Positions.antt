@@ -1,6 +1,6 @@
 -- The first place of a value among those that a function gives.
-use Rattle.std.proofs.Common.{ℕ, ◌+◌, ◌≡◌, refl, sym, ap, Bool, cond, List, [], ◌∷◌, length}
-use Rattle.std.specs.Prelude.{Option, Some, None, map, nat_lt, not, position}
+use Rattle.std.proofs.Common.{ℕ, ◌+◌, ◌≡◌, refl, Bool, cond, List, [], ◌∷◌}
+use Rattle.std.specs.Prelude.{Some, None, map, nat_lt, not, position}
 use Rattle.std.specs.List.{prefix_len}
 use Rattle.std.proofs.lemmas.List.{length-map}
 

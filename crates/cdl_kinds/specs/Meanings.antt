@@ -7,8 +7,9 @@ use Rattle.cdl_values.specs.declared.value.Array.{Array}
 use Rattle.cdl_values.specs.History.{Meaning, word, bit, is_on}
 use Rattle.cdl_kinds.specs.Meaning.Gates.{both, either, not_both, neither, just_one, gate, negation, all_on, any_on, switch}
 use Rattle.cdl_kinds.specs.Meaning.Edges.{is_edge, is_falling, is_change, edge, pre, latch, toggle}
-use Rattle.cdl_kinds.specs.Meaning.Integers.{magnitude, sum_of, difference_of, product_of, greater_of, lesser_of, integer_of_one, integer_of_two, integer_add_parameter, integer_multi_sum, is_equal, is_greater, is_greater_equal, is_less, is_less_equal, compare, compare_threshold, integer_change, on_counter}
-use Rattle.cdl_kinds.specs.Meaning.Reals.{absolute, greater, lesser, real_of_one, real_of_two, real_add_parameter, real_multiply_by_parameter, average, real_multi_sum, greatest, least, extreme, remembering, above, below, above_threshold, below_threshold, between, limiter, line_through}
+use Rattle.cdl_kinds.specs.Meaning.Integers.{magnitude, sum_of, difference_of, product_of, integer_of_one, integer_of_two, integer_add_parameter, integer_multi_sum, is_equal, is_greater, is_greater_equal, is_less, is_less_equal, compare, compare_threshold, integer_change, on_counter}
+use Rattle.cdl_values.specs.Extremes.{greater_of, lesser_of, greatest, least}
+use Rattle.cdl_kinds.specs.Meaning.Reals.{absolute, greater, lesser, real_of_one, real_of_two, real_add_parameter, real_multiply_by_parameter, average, real_multi_sum, extreme, remembering, above, below, above_threshold, below_threshold, between, limiter, line_through}
 use Rattle.cdl_kinds.specs.Meaning.Conversions.{constant, choice, integer_to_real, to_nearest_integer, replicator}
 use Rattle.cdl_kinds.specs.Meaning.Timers.{timer, timer_accumulating, true_delay, true_false_hold, pulse}
 use Rattle.cdl_kinds.specs.Meaning.Discrete.{sampler, unit_delay, triggered_sampler, triggered_max, triggered_moving_mean}

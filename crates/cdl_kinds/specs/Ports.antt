@@ -1,11 +1,11 @@
 -- The ports of the kinds.
-use Rattle.std.specs.Prelude.{ℕ, ◌+◌, ◌-◌, Bool, true, false, cond, nat_lt, List, [], ◌∷◌, codes, map, unsigned_abs}
+use Rattle.std.specs.Prelude.{ℕ, ◌+◌, ◌-◌, Bool, true, false, cond, nat_lt, List, [], ◌∷◌, unsigned_abs}
 use Rattle.cdl_kinds.specs.declared.kind.Kind.{Kind}
 use Rattle.cdl_kinds.specs.declared.ports.Port.{Port}
 use Rattle.cdl_kinds.specs.Table.{Group, row}
 use Rattle.cdl_values.specs.declared.value.Array.{Array}
 use Rattle.cdl_values.specs.declared.value.ValueType.{ValueType}
-use Rattle.cdl_values.specs.declared.value.ValueType.TheVariants.{Boolean, Integer, Real}
+use Rattle.cdl_values.specs.declared.value.ValueType.TheVariants.{Boolean}
 use Rattle.cdl_values.specs.History.{Signature}
 use Rattle.cdl_values.specs.Values.{integer_at}
 

@@ -1,5 +1,5 @@
 // The table of the kinds: a row for each.
-ghost use Rattle.std.specs.Prelude.{◌≡◌, ◌<◌, length, true, false, []};
+ghost use Rattle.std.specs.Prelude.{◌≡◌, ◌<◌, length};
 ghost use Rattle.cdl_kinds.specs.Table.{row};
 ghost use Rattle.cdl_kinds.specs.inner.Declared.{row_of};
 

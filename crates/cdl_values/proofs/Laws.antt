@@ -1,8 +1,8 @@
 -- Where each input is direct, a meaning rests on direct inputs alone.
-use Rattle.std.proofs.Common.{ℕ, ◌<◌, ◌≡◌, ap, ℤ, List, Bool, true, length, arith}
+use Rattle.std.proofs.Common.{ℕ, ◌≡◌, ap, ℤ, List, true, arith}
 use Rattle.std.specs.Prelude.{Option, pos}
 use Rattle.std.proofs.lemmas.List.{ext_get_or}
-use Rattle.cdl_values.specs.History.{History, SameDirect, Signature, word}
+use Rattle.cdl_values.specs.History.{History, SameDirect, Signature}
 
 -- where each input is direct, the same direct inputs are the same inputs
 pub same_inputs : (p : Signature) (x y : List ℤ) → ((i : ℕ) → p.direct i ≡ true) → SameDirect p x y → x ≡ y

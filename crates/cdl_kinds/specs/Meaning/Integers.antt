@@ -17,12 +17,6 @@ difference_of a b = a -ℤ b
 abbrev pub product_of : ℤ → ℤ → ℤ
 product_of a b = a *ℤ b
 
-abbrev pub greater_of : ℤ → ℤ → ℤ
-greater_of a b = cond (int_le a b) b a
-
-abbrev pub lesser_of : ℤ → ℤ → ℤ
-lesser_of a b = cond (int_le a b) a b
-
 -- a function of one Integer, and of two
 abbrev pub integer_of_one : (ℤ → ℤ) → Meaning
 integer_of_one f h now x = integer (f (word x 0))
