@@ -3,10 +3,8 @@ ghost use Rattle.std.specs.Prelude.{◌≡◌, ◌<◌};
 ghost use Rattle.cdl_kinds.specs.Conditions.{Keeps};
 
 use crate::values::{numbers, values};
-use cdl_kinds::{
-    Kind, Params, Port, Preset, Steps, ValueType, check, find, kind_name, parameters, port,
-    port_count,
-};
+use cdl_kinds::{Kind, Params, Port, Preset, Steps, check, find, kind_name, parameters, port, port_count};
+use cdl_values::ValueType;
 use std::alloc::{AllocError, Global};
 use std::marker::Brand;
 use std::sync::ledger::{Blank, Ledger};
@@ -127,7 +125,7 @@ fn show_port(text: &mut String, port: Port) -> Result<(), AllocError> {
     text.push_str(port.name)?;
     text.push_str(star(port.index == 1))?;
     text.push_str(":")?;
-    text.push_str(letter(port.kind))?;
+    text.push_str(letter(port.value_type))?;
     text.push_str(" ")
 }
 
@@ -154,7 +152,7 @@ fn row_text(alloc: Global, kind: Kind, params: &Params) -> Result<String, AllocE
     show_ports(&mut text, kind, params)?;
     for (i, parameter) in parameters(kind).iter().enumerate() {
         text.push_str(if i == 0 { "| " } else { ", " })?;
-        text.push_str(letter(parameter.kind))?;
+        text.push_str(letter(parameter.value_type))?;
         text.push_str(" ")?;
         text.push_str(parameter.name)?;
         text.push_str(star(parameter.per_nin))?;

@@ -1,11 +1,12 @@
 // Values of parameters, from numbers.
 ghost use Rattle.std.specs.Prelude.{◌≡◌, ◌≤◌, ℤ, All, IfOk, IfSome, length, false, true, unsigned_abs};
 ghost use Rattle.cdl_kinds.specs.Conditions.{Fits, FitsRow, is_count};
-ghost use Rattle.cdl_kinds.specs.Parameters.{row_of};
-ghost use Rattle.cdl_kinds.specs.Values.{IsOf};
+ghost use Rattle.cdl_kinds.specs.Parameters.{parameter_row};
+ghost use Rattle.cdl_values.specs.Values.{IsOf};
 
 use cdl_decimal::Real;
-use cdl_kinds::{Array, Kind, Parameter, Value, ValueType, parameters};
+use cdl_kinds::{Kind, Parameter, parameters};
+use cdl_values::{Array, Value, ValueType};
 use cdl_source::List;
 use std::alloc::Global;
 use std::test::Fail;
@@ -34,13 +35,13 @@ fn value_of(kind: ValueType, n: i64) -> Option<Value>
 // A scalar for the parameter.
 #[tactic(auto, using(crate::proofs::Fitting::scalar_fits))]
 fn scalar(alloc: Global, row: &Parameter, n: i64) -> Result<Array, Fail>
-    ensures { IfOk result (λ a. (nin : ℤ) → row.now.per_nin ≡ false → FitsRow nin (row_of row.now) a) }
+    ensures { IfOk result (λ a. (nin : ℤ) → row.now.per_nin ≡ false → FitsRow nin (parameter_row row.now) a) }
 {
-    let value = value_of(row.kind, n).ok_or("no value")?;
+    let value = value_of(row.value_type, n).ok_or("no value")?;
     let mut items = List::new(alloc);
     items.push(value)?;
     Ok(Array {
-        kind: row.kind,
+        value_type: row.value_type,
         shape: List::new(alloc),
         items,
     })
@@ -110,12 +111,12 @@ fn sum_values(
     shape.push(count as u32)?;
     let mut values = List::new(alloc);
     values.push(Array {
-        kind: ValueType::Integer,
+        value_type: ValueType::Integer,
         shape: List::new(alloc),
         items: counts,
     })?;
     let items = factors(alloc, kind, count, numbers)?;
-    values.push(Array { kind, shape, items })?;
+    values.push(Array { value_type: kind, shape, items })?;
     Ok(values)
 }
 

@@ -1,6 +1,6 @@
 -- The columns of the tests.
 use Rattle.std.specs.Prelude.{◌≡◌, List, [], ◌∷◌}
-use Rattle.cdl_kinds.specs.declared.value.ValueType.TheVariants.{Boolean, Integer, Real}
+use Rattle.cdl_values.specs.declared.value.ValueType.TheVariants.{Boolean, Integer, Real}
 use Rattle.cdl_table.specs.declared.column.Column.{Column}
 
 -- a Boolean, an Integer and a Real

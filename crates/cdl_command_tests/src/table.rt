@@ -3,7 +3,7 @@ ghost use Rattle.std.specs.Prelude.{◌≡◌, ◌++◌, ◌∷◌, [], IfOk, On
 ghost use Rattle.cdl_command_tests.specs.Mixed.{AreMixed};
 
 use crate::marks::bytes_of;
-use cdl_kinds::ValueType;
+use cdl_values::ValueType;
 use cdl_source::{List, MemSink, Text};
 use cdl_table::{Column, Table, TableFault, TraceError, TraceWriter};
 use std::alloc::Global;

@@ -3,7 +3,7 @@ use Rattle.std.proofs.Common.{◌≡◌, ◌<◌, ◌≤◌, ◌+◌, ◌*◌, �
 use Rattle.std.specs.Prelude.{◌⊎◌, option_and_then, slice_get, ◌==◌, nat_lt}
 use Rattle.std.proofs.lemmas.Bool.{false≢true, cases_eq, lt-ltb}
 use Rattle.std.proofs.lemmas.Bool.Decides.{nat_tests}
-use Rattle.cdl_kinds.specs.declared.value.ValueType.{ValueType}
+use Rattle.cdl_values.specs.declared.value.ValueType.{ValueType}
 use Rattle.cdl_tree.specs.declared.class.Connect.{Connect}
 use Rattle.cdl_tree.specs.declared.class.Part.{Part}
 use Rattle.cdl_tree.specs.declared.class.Ref.{Ref}

@@ -2,7 +2,7 @@
 use Rattle.std.specs.Prelude.{ℕ, nat_lt, List, [], ◌∷◌, slice_get, Option, Some, None, option_and_then, if◌then◌else◌}
 use Rattle.std.specs.Option.{option_map}
 use Rattle.cdl_kinds.specs.declared.kind.Kind.{Kind}
-use Rattle.cdl_kinds.specs.declared.value.ValueType.{ValueType}
+use Rattle.cdl_values.specs.declared.value.ValueType.{ValueType}
 use Rattle.cdl_flat.specs.declared.part.Place.{Place}
 use Rattle.cdl_flat.specs.declared.part.Place.TheVariants as place
 use Rattle.cdl_flat.specs.declared.part.End.{End}

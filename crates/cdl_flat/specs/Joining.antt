@@ -1,7 +1,7 @@
 -- Joining the sources of a block to its sinks, one statement after another.
 use Rattle.std.specs.Prelude.{ℕ, zero, suc, ◌+◌, ◌*◌, ◌&&◌, ◌==◌, nat_lt, Bool, true, false, List, [], ◌∷◌, length, slice_get, slice_set, replicate, Option, Some, None, option_and_then, if◌then◌else◌}
-use Rattle.cdl_kinds.specs.declared.value.ValueType.{ValueType}
-use Rattle.cdl_kinds.specs.declared.value.ValueType.TheVariants.{Boolean, Integer, Real, Str, Enumeration}
+use Rattle.cdl_values.specs.declared.value.ValueType.{ValueType}
+use Rattle.cdl_values.specs.declared.value.ValueType.TheVariants.{Boolean, Integer, Real, Str, Enumeration}
 use Rattle.cdl_tree.specs.declared.class.Connect.{Connect}
 use Rattle.cdl_tree.specs.declared.class.Loop.{Loop}
 use Rattle.cdl_tree.specs.declared.class.Statement.{Statement, out-Statement}

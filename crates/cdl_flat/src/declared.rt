@@ -9,7 +9,8 @@ ghost use Rattle.cdl_flat.specs.PlainKinds.{is_plain_kind};
 
 use crate::part::{Component, Part, Place};
 use crate::plain_kind::is_plain_kind;
-use cdl_kinds::{Kind, ValueType};
+use cdl_kinds::Kind;
+use cdl_values::ValueType;
 use cdl_source::{List, OutOfMemory, Text};
 use cdl_table::Column;
 use cdl_tree::{Item, Prefix};

@@ -9,7 +9,7 @@ use crate::declared::Declared;
 use crate::ends::straight_end;
 use crate::part::{Component, Edge, End, Source};
 use crate::plain_kind::input_count;
-use cdl_kinds::ValueType;
+use cdl_values::ValueType;
 use cdl_source::{MOST_INSTANCES, OutOfMemory};
 use cdl_tree::{Connect, Statement};
 use std::alloc::Global;

@@ -1,5 +1,6 @@
 // What the items of a block are.
-use cdl_kinds::{Kind, ValueType};
+use cdl_kinds::Kind;
+use cdl_values::ValueType;
 use cdl_source::Text;
 
 /// What the class of an item is.

@@ -11,9 +11,9 @@ use Rattle.cdl_decimal.specs.Near.{InRange, in_range, near}
 use Rattle.cdl_decimal.specs.Spells.{Parts, lower, upper}
 use Rattle.cdl_decimal.specs.Split.{count_of, is_long, judged, parse_of, split}
 use Rattle.cdl_decimal.specs.declared.numeral.DecimalError.TheVariants.{OutOfRange}
-use Rattle.cdl_kinds.specs.History.{IsTime, IsValue}
-use Rattle.cdl_kinds.specs.declared.value.ValueType.{ValueType}
-use Rattle.cdl_kinds.specs.declared.value.ValueType.TheVariants.{Boolean, Integer, Real, Str, Enumeration}
+use Rattle.cdl_values.specs.History.{IsTime, IsValue}
+use Rattle.cdl_values.specs.declared.value.ValueType.{ValueType}
+use Rattle.cdl_values.specs.declared.value.ValueType.TheVariants.{Boolean, Integer, Real, Str, Enumeration}
 use Rattle.cdl_table.specs.declared.column.Column.{Column}
 use Rattle.cdl_source.specs.declared.limits.TheConstants.{LATEST_TIME}
 use Rattle.cdl_table.specs.Cells.{boolean_word, digits_after, integer_word, magnitude_of, negative, number_of, real_word, time_of, up_to, word_of}

@@ -1,6 +1,6 @@
 -- Words that are values of their columns' types.
 use Rattle.std.specs.Prelude.{◌<◌, ℕ, ℤ, List, [], ◌∷◌, length}
-use Rattle.cdl_kinds.specs.History.{IsTime, IsValue}
+use Rattle.cdl_values.specs.History.{IsTime, IsValue}
 use Rattle.cdl_table.specs.declared.column.Column.{Column}
 use Rattle.cdl_table.specs.TableRow.{TableRow, row_at}
 

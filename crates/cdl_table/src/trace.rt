@@ -4,7 +4,7 @@ ghost use Rattle.csv.specs.Records.{fields_of};
 ghost use Rattle.csv.specs.Writing.{comma, default_writer, field_text, fields_text, row_text};
 ghost use Rattle.cdl_decimal.specs.Canon.{canon};
 ghost use Rattle.cdl_decimal.specs.Near.{InRange};
-ghost use Rattle.cdl_kinds.specs.History.{IsValue};
+ghost use Rattle.cdl_values.specs.History.{IsValue};
 ghost use Rattle.cdl_source.specs.Causes.{Rose};
 ghost use Rattle.cdl_source.specs.Outside.{written_after};
 ghost use Rattle.cdl_source.specs.Whole.{WritesSome};
@@ -14,7 +14,7 @@ ghost use Rattle.cdl_table.specs.Values.{AreValues};
 
 use crate::Column;
 use cdl_decimal::{Real, text};
-use cdl_kinds::ValueType;
+use cdl_values::ValueType;
 use cdl_source::{Failed, List, OutOfMemory, Sink, Text, write_whole};
 use csv::{ByteRecord, WriterBuilder};
 use itoa::Buffer;

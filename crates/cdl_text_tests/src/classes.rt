@@ -4,7 +4,8 @@ ghost use Rattle.std.specs.Prelude.{◌<◌, length};
 ghost use Rattle.cdl_scopes.specs.Classes.{declared};
 
 use cdl_classes::{ClassFault, ClassId, ClassTable, Found, ValueFound};
-use cdl_kinds::{ValueType, find};
+use cdl_kinds::find;
+use cdl_values::ValueType;
 use cdl_lex::lex;
 use cdl_parse::parse;
 use cdl_source::{List, Place, Span, Text};

@@ -1,6 +1,6 @@
 use Rattle.std.proofs.Common.{◌≡◌, length}
 use Rattle.std.specs.Prelude.{All}
-use Rattle.cdl_kinds.specs.Values.{IsOf}
+use Rattle.cdl_values.specs.Values.{IsOf}
 use Rattle.cdl_block_tests.proofs.values.factors.Given as goal
 
 abbrev pub invariant-loop-i : goal.invariant-loop-i
