@@ -5,6 +5,7 @@ use Rattle.cdl_source.specs.declared.limits.TheConstants.{MOST_INSTANCES}
 use Rattle.cdl_kinds.specs.declared.value.ValueType.{ValueType}
 use Rattle.cdl_tree.specs.declared.class.Item.{Item}
 use Rattle.cdl_tree.specs.declared.class.Connect.{Connect}
+use Rattle.cdl_tree.specs.declared.class.Statement.{Statement}
 use Rattle.cdl_tree.specs.declared.class.Ref.{Ref}
 use Rattle.cdl_tree.specs.declared.class.Prefix.TheVariants.{Plain}
 use Rattle.cdl_flat.specs.declared.part.Part.{Part}
@@ -13,6 +14,7 @@ use Rattle.cdl_flat.specs.declared.part.End.TheVariants.{Taker, Giver}
 use Rattle.cdl_flat.specs.Lists.{Each, Has, Differ}
 use Rattle.cdl_flat.specs.PlainKinds.{is_plain_kind}
 use Rattle.cdl_flat.specs.Blocks.{Declarations, Wire, name_of, block_of}
+use Rattle.cdl_flat.specs.Statements.{HasNoLoop, connects_in}
 use Rattle.cdl_flat.specs.Ends.{end_of, given_type, taken_type}
 
 -- no word before it, no dimensions, no arguments and no condition
@@ -38,7 +40,7 @@ abbrev pub IsForward : Option End → Option End → Type 0
 IsForward (Some (Giver i t)) (Some (Taker j p u)) = i < j
 IsForward _ _ = Unit {0}
 
--- The items, each of which is this part, and the statements are those of a flat block.
+-- The items, each of which is this part, and the connect statements are those of a flat block.
 pub record IsFlat (items : List Item) (parts : List (Option Part)) (connects : List Connect) : Type 0 where
   -- each item is plain, is a connector or a component, and has a name of its own
   pub plain : Each IsPlain items
@@ -58,3 +60,8 @@ pub record IsFlat (items : List Item) (parts : List (Option Part)) (connects : L
   pub once : Differ (λ (w : Wire). w.sink) (block_of items parts connects).wires
   -- a component takes values from own inputs, and from components that are declared earlier
   pub forward : Each (λ w. IsForward (end_of (block_of items parts connects).declared w.source) (end_of (block_of items parts connects).declared w.sink)) (block_of items parts connects).wires
+
+-- The items, each of which is this part, and the statements, none of which is a loop, are those of a flat block.
+pub record IsFlatBlock (items : List Item) (parts : List (Option Part)) (statements : List Statement) : Type 0 where
+  pub no_loop : HasNoLoop statements
+  pub flat : IsFlat items parts (connects_in statements)

@@ -1,5 +1,6 @@
 pub mod Lists
 pub mod PlainKinds
+pub mod Statements
 pub mod Blocks
 pub mod Names
 pub mod Ends

@@ -11,7 +11,7 @@ use crate::part::{Component, Edge, End, Source};
 use crate::plain_kind::input_count;
 use cdl_kinds::ValueType;
 use cdl_source::{MOST_INSTANCES, OutOfMemory};
-use cdl_tree::Connect;
+use cdl_tree::{Connect, Statement};
 use std::alloc::Global;
 
 fn same_type(a: ValueType, b: ValueType) -> bool
@@ -142,7 +142,7 @@ fn put(joins: &mut [Option<Source>], edge: Edge) -> bool
     }
 }
 
-// Joins what a statement joins. False: it has no edge, or its place is joined already.
+// Joins what a connect statement joins. False: it has no edge, or its place is joined already.
 fn join(declared: &Declared, joins: &mut [Option<Source>], connect: &Connect) -> bool
     requires { length declared.now.outputs + 3 * length declared.now.components < 2 ^ 64 }
     ensures { spec.join declared.now joins.old connect.now ≡ (if result then Some joins.new else None) }
@@ -153,14 +153,26 @@ fn join(declared: &Declared, joins: &mut [Option<Source>], connect: &Connect) ->
     }
 }
 
-/// The source of each sink that the statements join; None where one of them joins no source to a free sink.
+// Joins what a statement joins. False: it is a loop, or it has no edge, or its place is joined already.
+#[tactic(auto, unfolding(crate::specs::Statements::connect_of))]
+fn join_statement(declared: &Declared, joins: &mut [Option<Source>], statement: &Statement) -> bool
+    requires { length declared.now.outputs + 3 * length declared.now.components < 2 ^ 64 }
+    ensures { spec.join_statement declared.now joins.old statement.now ≡ (if result then Some joins.new else None) }
+{
+    match statement {
+        Statement::Connect(connect) => join(declared, joins, connect),
+        Statement::Loop(_) => false,
+    }
+}
+
+/// The source of each sink that the statements join; None where one of them is a loop, or joins no source to a free sink.
 pub(crate) fn join_all(
     alloc: Global,
     declared: &Declared,
-    connects: &[Connect],
+    statements: &[Statement],
 ) -> Result<Option<Vec<Option<Source>>>, OutOfMemory>
     requires { length declared.now.components ≤ MOST_INSTANCES - 1 }
-    ensures joins { IfOk result (λ joins. option_map (λ v. v.items) joins ≡ spec.join_all declared.now (spec.no_joins declared.now) connects.now) }
+    ensures joins { IfOk result (λ joins. option_map (λ v. v.items) joins ≡ spec.join_statements declared.now (spec.no_joins declared.now) statements.now) }
     ensures room { IfOk result (λ _. length declared.now.outputs + 3 * length declared.now.components < 2 ^ 64) }
 {
     let places = 3 * declared.components().len();
@@ -168,8 +180,8 @@ pub(crate) fn join_all(
         return Err(OutOfMemory);
     };
     let mut joins = vec![in alloc; None; places]?;
-    for connect in connects {
-        if !join(declared, &mut joins, connect) {
+    for statement in statements {
+        if !join_statement(declared, &mut joins, statement) {
             return Ok(None);
         }
     }
