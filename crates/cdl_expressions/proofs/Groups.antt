@@ -1,59 +1,59 @@
 -- The laws of operators that group to the left.
 use Rattle.std.proofs.Common.{◌≡◌, ℕ, ◌≤◌, ◌<◌, Bool, true, false, not, List, [], ◌∷◌, ◌++◌, length, Option, Some, None, Ok, Err, refl, sym, ap, ◌∙◌, subst, arith, if◌then◌else◌, append-nil}
-use Rattle.cdl_tree.specs.declared.kind.Kind.{Kind}
-use Rattle.cdl_tree.specs.declared.kind.Kind.TheVariants as k
+use Rattle.cdl_tree.specs.declared.terminal.Terminal.{Terminal}
+use Rattle.cdl_tree.specs.declared.terminal.Terminal.TheVariants as the
 use Rattle.cdl_tree.specs.declared.expr.Op.{Op}
 use Rattle.cdl_tree.specs.declared.expr.Expr.{Expr}
 use Rattle.cdl_tree.specs.declared.expr.Node.TheVariants as node
-use Rattle.cdl_tree.specs.Words.{Terminal, Word}
+use Rattle.cdl_tree.specs.Words.{Lexeme, Word}
 use Rattle.cdl_tree.specs.Trees.{tree}
-use Rattle.cdl_reading.specs.Reading.{Parser, and_then, pure, kind, next, made}
+use Rattle.cdl_reading.specs.Reading.{Parser, and_then, pure, terminal, next, made}
 use Rattle.cdl_reading.proofs.Steps.{Then, both, Made, is_made, seam}
 use Rattle.cdl_reading.proofs.Laws.{member, each, within, within_self, Law, shaped, made_law, Token, a_token, token_by, Reader, token_law, then_law, token_of}
 use Rattle.cdl_reading.proofs.Repeats.{Repeats, Loop, repeat_law, then_assoc}
 use Rattle.cdl_expressions.specs.Expressions.{grouped_by, grouped_from}
 
-abbrev pub operator_of : (Kind → Option Op) → Terminal → Option Op
-operator_of operator t = operator t.kind
+abbrev pub operator_of : (Terminal → Option Op) → Lexeme → Option Op
+operator_of operator t = operator t.terminal
 
 abbrev pub operate_by : Option Op → Parser Op
 operate_by (Some o) i = Ok (o, next i)
 operate_by None i = Err i
 
-abbrev pub operate : (Kind → Option Op) → Parser Op
-operate operator i = operate_by (operator (kind i)) i
+abbrev pub operate : (Terminal → Option Op) → Parser Op
+operate operator i = operate_by (operator (terminal i)) i
 
-operate_reader : (operator : Kind → Option Op) → operator k.Nothing ≡ None → Reader (operator_of operator) (operate operator)
-operate_reader operator never = record { nil = ap (λ o. operate_by o []) never; cons = λ t ts. cons t ts (operator t.kind) }
+operate_reader : (operator : Terminal → Option Op) → operator the.Nothing ≡ None → Reader (operator_of operator) (operate operator)
+operate_reader operator never = record { nil = ap (λ o. operate_by o []) never; cons = λ t ts. cons t ts (operator t.terminal) }
   where
-    cons : (t : Terminal) (ts : Word) (o : Option Op) → operate_by o (t ∷ ts) ≡ token_by o (t ∷ ts) ts
+    cons : (t : Lexeme) (ts : Word) (o : Option Op) → operate_by o (t ∷ ts) ≡ token_by o (t ∷ ts) ts
     cons t ts (Some o) = refl
     cons t ts None = refl
 
-pub data Operated (operator : Kind → Option Op) (Y : Word → Expr → Type 0) (left : Expr) (u : Word) : Word → Expr → Type 0 where
-  operated : (t : Terminal) {o : Op} {w : Word} {r e : Expr} → operator t.kind ≡ Some o → Y w r → e ≡ tree (node.Binary o left r) (u ++ t ∷ w) → Operated operator Y left u (t ∷ w) e
+pub data Operated (operator : Terminal → Option Op) (Y : Word → Expr → Type 0) (left : Expr) (u : Word) : Word → Expr → Type 0 where
+  operated : (t : Lexeme) {o : Op} {w : Word} {r e : Expr} → operator t.terminal ≡ Some o → Y w r → e ≡ tree (node.Binary o left r) (u ++ t ∷ w) → Operated operator Y left u (t ∷ w) e
 
-abbrev pub group_step : (Kind → Option Op) → Parser Expr → Expr → Word → Parser Expr
+abbrev pub group_step : (Terminal → Option Op) → Parser Expr → Expr → Word → Parser Expr
 group_step operator p left s i = and_then (operate operator i) (λ o i. and_then (p i) (λ r. made (tree (node.Binary o left r)) s))
 
 abbrev pub is_operator : Option Op → Bool
 is_operator None = false
 is_operator (Some o) = true
 
-group_loop : (operator : Kind → Option Op) (p : Parser Expr) → Loop (λ kd. is_operator (operator kd)) (group_step operator p) (λ n left s. grouped_from operator p n s left)
+group_loop : (operator : Terminal → Option Op) (p : Parser Expr) → Loop (λ kd. is_operator (operator kd)) (group_step operator p) (λ n left s. grouped_from operator p n s left)
 unfolding grouped_from grouped_by
-group_loop operator p = record { at_end = λ a s i. refl; turn = λ n a s i. turn n a s i (operator (kind i)) }
+group_loop operator p = record { at_end = λ a s i. refl; turn = λ n a s i. turn n a s i (operator (terminal i)) }
   where
     turn : (n : ℕ) (left : Expr) (s i : Word) (o : Option Op) → grouped_by operator p (grouped_from operator p n s) s left o i
         ≡ (if is_operator o then and_then (and_then (operate_by o i) (λ o i. and_then (p i) (λ r. made (tree (node.Binary o left r)) s))) (λ b. grouped_from operator p n s b) else pure left i)
     turn n left s i None = refl
     turn n left s i (Some o) = sym (then_assoc (p (next i)) (λ r. made (tree (node.Binary o left r)) s) (λ b. grouped_from operator p n s b))
 
-module _ (operator : Kind → Option Op) (never : operator k.Nothing ≡ None) (v : Kind) (o : Op) (known : operator v ≡ Some o) (O : List Kind) (kinds : (kd : Kind) (p : Op) → operator kd ≡ Some p → member O kd ≡ true) where
-  operate_law : {n m : ℕ} (S : List Kind) → Law n m (Token (operator_of operator)) O S (λ s. operate operator) (λ s. operate operator)
-  operate_law S = token_law (operator_of operator) (operate operator) (operate_reader operator never) (token_of v) o known O (λ t a e. kinds t.kind a e) S
+module _ (operator : Terminal → Option Op) (never : operator the.Nothing ≡ None) (v : Terminal) (o : Op) (known : operator v ≡ Some o) (O : List Terminal) (terminals : (kd : Terminal) (p : Op) → operator kd ≡ Some p → member O kd ≡ true) where
+  operate_law : {n m : ℕ} (S : List Terminal) → Law n m (Token (operator_of operator)) O S (λ s. operate operator) (λ s. operate operator)
+  operate_law S = token_law (operator_of operator) (operate operator) (operate_reader operator never) (token_of v) o known O (λ t a e. terminals t.terminal a e) S
 
-  module _ {d d' : ℕ} {Y : Word → Expr → Type 0} {p p' : Parser Expr} {T : List Kind} (U S : List Kind) (operand : Law d d' (λ u. Y) T U (λ s. p) (λ s. p'))
+  module _ {d d' : ℕ} {Y : Word → Expr → Type 0} {p p' : Parser Expr} {T : List Terminal} (U S : List Terminal) (operand : Law d d' (λ u. Y) T U (λ s. p) (λ s. p'))
       (sub : within (O ++ S) U ≡ true) (yes_there : each (λ kd. is_operator (operator kd)) O ≡ true) (not_there : each (λ kd. not (is_operator (operator kd))) S ≡ true) where
     group_goes : (left : Expr) (u w : Word) (e : Expr) → Then (Token (operator_of operator)) (λ o. Then (λ u. Y) (λ r. Made (tree (node.Binary o left r)))) u w e → Operated operator Y left u w e
     group_goes left u w e (both (a_token t {a = o} h) (both {x = x} {a = r} y (is_made m))) =

@@ -6,7 +6,7 @@ ghost use Rattle.cdl_expressions.specs.Arguments as spec;
 use crate::expression::expr;
 use cdl_reading::{Cursor, Fault};
 use cdl_source::List;
-use cdl_tree::{Expr, Kind, Modifier};
+use cdl_tree::{Expr, Modifier, Terminal};
 use std::alloc::Global;
 
 // { "+" STRING }
@@ -14,10 +14,10 @@ fn strings(tokens: &mut Cursor<'_>, most: usize) -> Result<(), Fault>
     ensures { Gives (spec.strings_from most tokens.old) result tokens.new }
 {
     for _turn in 0..most {
-        if !tokens.eat(Kind::Plus) {
+        if !tokens.eat(Terminal::Plus) {
             return Ok(());
         }
-        tokens.expect(Kind::Str)?;
+        tokens.expect(Terminal::Str)?;
     }
     Ok(())
 }
@@ -27,7 +27,7 @@ fn strings(tokens: &mut Cursor<'_>, most: usize) -> Result<(), Fault>
 pub fn text(tokens: &mut Cursor<'_>, most: usize) -> Result<(), Fault>
     ensures { Gives (spec.text_of most tokens.old) result tokens.new }
 {
-    if tokens.eat(Kind::Str) {
+    if tokens.eat(Terminal::Str) {
         strings(tokens, most)
     } else {
         Ok(())
@@ -39,12 +39,12 @@ pub fn text(tokens: &mut Cursor<'_>, most: usize) -> Result<(), Fault>
 pub fn optional(
     alloc: Global,
     tokens: &mut Cursor<'_>,
-    kind: Kind,
+    terminal: Terminal,
     most: usize,
 ) -> Result<Option<Expr>, Fault>
-    ensures { Gives (spec.optional kind most tokens.old) result tokens.new }
+    ensures { Gives (spec.optional terminal most tokens.old) result tokens.new }
 {
-    if !tokens.eat(kind) {
+    if !tokens.eat(terminal) {
         return Ok(None);
     }
     let value = expr(alloc, tokens, most)?;
@@ -74,7 +74,7 @@ impl<F: Fn(Global, &mut Cursor<'_>, usize) -> Result<List<Modifier>, Fault>> Arg
         requires { Nests spec.args self.now.depth (F.pre self.now.whole) (F.post self.now.whole) }
         ensures { Gives (spec.optional_args (spec.args self.now.depth) tokens.old) result tokens.new }
     {
-        if !tokens.sees(Kind::Open) {
+        if !tokens.sees(Terminal::Open) {
             return Ok(None);
         }
         let args = self.whole(tokens)?;
@@ -88,11 +88,11 @@ impl<F: Fn(Global, &mut Cursor<'_>, usize) -> Result<List<Modifier>, Fault>> Arg
         ensures { Gives (spec.arg self.now.depth (spec.args self.now.depth) tokens.old) result tokens.new }
     {
         let start = tokens.here();
-        let each = tokens.eat(Kind::Each);
-        let is_final = tokens.eat(Kind::Final);
+        let each = tokens.eat(Terminal::Each);
+        let is_final = tokens.eat(Terminal::Final);
         let name = tokens.ident(self.alloc)?;
         let args = self.optional(tokens)?;
-        let value = optional(self.alloc, tokens, Kind::Equals, self.depth)?;
+        let value = optional(self.alloc, tokens, Terminal::Equals, self.depth)?;
         text(tokens, self.depth)?;
         let span = tokens.span_since(&start);
         Ok(Modifier {
@@ -113,7 +113,7 @@ impl<F: Fn(Global, &mut Cursor<'_>, usize) -> Result<List<Modifier>, Fault>> Arg
         let mut found = List::new(self.alloc);
         found.push(self.arg(tokens)?)?;
         for _turn in 0..self.depth {
-            if !tokens.eat(Kind::Comma) {
+            if !tokens.eat(Terminal::Comma) {
                 return Ok(found);
             }
             found.push(self.arg(tokens)?)?;
@@ -127,12 +127,12 @@ impl<F: Fn(Global, &mut Cursor<'_>, usize) -> Result<List<Modifier>, Fault>> Arg
         requires { Nests spec.args self.now.depth (F.pre self.now.whole) (F.post self.now.whole) }
         ensures { Gives (spec.arguments self.now.depth (spec.args self.now.depth) tokens.old) result tokens.new }
     {
-        tokens.expect(Kind::Open)?;
-        if tokens.eat(Kind::Close) {
+        tokens.expect(Terminal::Open)?;
+        if tokens.eat(Terminal::Close) {
             return Ok(List::new(self.alloc));
         }
         let found = self.list(tokens)?;
-        tokens.expect(Kind::Close)?;
+        tokens.expect(Terminal::Close)?;
         Ok(found)
     }
 }
@@ -161,7 +161,7 @@ pub fn optional_args(
 ) -> Result<Option<List<Modifier>>, Fault>
     ensures { Gives (spec.optional_args (spec.args most) tokens.old) result tokens.new }
 {
-    if !tokens.sees(Kind::Open) {
+    if !tokens.sees(Terminal::Open) {
         return Ok(None);
     }
     let found = args(alloc, tokens, most)?;
