@@ -5,3 +5,4 @@ mod Prims
 pub mod Operators
 pub mod Texts
 pub mod Args
+pub mod Meant
