@@ -6,3 +6,4 @@ pub mod Operators
 pub mod Texts
 pub mod Args
 pub mod Meant
+pub mod Formed

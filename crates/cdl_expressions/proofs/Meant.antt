@@ -1,5 +1,5 @@
 -- What the literals of a text mean is as a text may have it: strings are UTF-8, and numbers are not negative.
-use Rattle.std.proofs.Common.{◌≡◌, ◌⊎◌, ℕ, zero, suc, ◌+◌, ◌*◌, ◌/◌, ◌^◌, ◌≤◌, ◌<◌, ℤ, pos, ◌*ℤ◌, ◌+ℤ◌, Bool, true, false, ◌&&◌, ◌||◌, ◌==◌, nat_le, cond, if◌then◌else◌, List, [], ◌∷◌, ◌++◌, length, slice_index, get_or, nat_lt, Option, Some, None, Ok, refl, sym, ap, ◌∙◌, subst, arith, append-nil, inl, inr}
+use Rattle.std.proofs.Common.{◌≡◌, ◌⊎◌, ℕ, zero, suc, ◌*◌, ◌/◌, ◌^◌, ◌≤◌, ◌<◌, ℤ, pos, ◌*ℤ◌, ◌+ℤ◌, Bool, true, false, ◌&&◌, ◌||◌, ◌==◌, nat_le, cond, if◌then◌else◌, List, [], ◌∷◌, ◌++◌, length, slice_index, get_or, nat_lt, Option, Some, None, refl, sym, ap, ◌∙◌, subst, arith, append-nil, inl, inr}
 use Rattle.std.proofs.Math.Utf8.{encode, encodes, scalar, scalars}
 use Rattle.std.proofs.lemmas.Bool.{eqb-true}
 use Rattle.std.proofs.lemmas.Bool.Decides.{nat_tests}
@@ -7,10 +7,8 @@ use Rattle.std.proofs.lemmas.Str.{encode_ascii, IsUtf8-nil, IsUtf8-from_ascii, l
 use Rattle.std.specs.Char.{is_ascii_digit, IsScalar}
 use Rattle.std.specs.List.{list_all}
 use Rattle.std.specs.Str.{IsUtf8, is_utf8}
-use Rattle.std.specs.Int.{int_div_euclid, int_rem_euclid}
-use Rattle.cdl_source.specs.Identifiers.{is_digit}
-use Rattle.cdl_decimal.specs.Near.{near, nearest}
-use Rattle.cdl_decimal.specs.Spells.{Parts, Spells, IsSign, none, plus, minus, CountIs, number, with_sign, upper, lower}
+use Rattle.cdl_decimal.specs.Near.{near}
+use Rattle.cdl_decimal.specs.Spells.{Parts, IsSign, none, plus, minus, CountIs, number, with_sign, upper, lower}
 use Rattle.cdl_decimal.proofs.NearLaws.{near_is, near_one}
 use Rattle.cdl_decimal.proofs.ScaleLaws.{power_positive}
 use Rattle.cdl_tree.specs.Literals.{most_integer, integer_of, IsReal, escaped, put, closed, unescaped, opened, string_of, behind}
