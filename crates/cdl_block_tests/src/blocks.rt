@@ -7,8 +7,8 @@ ghost use Rattle.cdl_blocks.specs.MemorylessKinds.{is_memoryless};
 
 use crate::values::{numbers, values};
 use cdl_blocks::{AnyBlock, is_memoryless};
-use cdl_values::words::read;
 use cdl_kinds::{Elementary, Kind, Params, Steps, check, find, port, port_count};
+use cdl_values::words::read;
 use cdl_values::{NoValue, ValueType};
 use std::marker::Brand;
 use std::sync::ledger::{Blank, Ledger};
@@ -84,10 +84,10 @@ const CASES: &str = "Logical.And;;0 0=0;0 1=0;1 0=0;1 1=1\n\
     Routing.RealScalarReplicator;4;5=5 5 5 5;-5=-5 -5 -5 -5;10000000000000000=10000000000000000 10000000000000000 10000000000000000 10000000000000000;0=0 0 0 0\n\
     Routing.RealScalarReplicator;1;9=9";
 
-fn is_value(kind: ValueType, w: i64) -> bool
-    ensures { IsTrue result → IsValue kind w }
+fn is_value(value_type: ValueType, w: i64) -> bool
+    ensures { IsTrue result → IsValue value_type w }
 {
-    match kind {
+    match value_type {
         ValueType::Boolean => w == 0 || w == 1,
         ValueType::Integer => w.unsigned_abs() <= 2_147_483_647,
         ValueType::Real => w.unsigned_abs() <= 10_000_000_000_000_000,

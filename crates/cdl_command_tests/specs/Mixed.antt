@@ -8,5 +8,5 @@ abbrev pub AreMixed : List Column → Type 0
 AreMixed [] = ⊥
 AreMixed (a ∷ []) = ⊥
 AreMixed (a ∷ b ∷ []) = ⊥
-AreMixed (a ∷ b ∷ c ∷ []) = (a.kind ≡ Boolean) × (b.kind ≡ Integer) × (c.kind ≡ Real)
+AreMixed (a ∷ b ∷ c ∷ []) = (a.value_type ≡ Boolean) × (b.value_type ≡ Integer) × (c.value_type ≡ Real)
 AreMixed (a ∷ b ∷ c ∷ d ∷ rest) = ⊥

@@ -96,12 +96,12 @@ const CASES: &str = "&=\n\
     time;a;\"u[1,2]\";x|=C62 1 1";
 
 // Adds a column.
-fn add(alloc: Global, list: &mut List<Column>, name: &str, kind: ValueType) -> Result<(), Fail>
-    ensures { OnOk result (list.new ≡ list.old ++ record { name = name.now; kind = kind } ∷ []) }
+fn add(alloc: Global, list: &mut List<Column>, name: &str, value_type: ValueType) -> Result<(), Fail>
+    ensures { OnOk result (list.new ≡ list.old ++ record { name = name.now; value_type = value_type } ∷ []) }
 {
     let mut text = Text::new(alloc);
     text.push(name.as_bytes())?;
-    list.push(Column { name: text, kind })?;
+    list.push(Column { name: text, value_type })?;
     Ok(())
 }
 

@@ -98,7 +98,7 @@ ends-of d w e h = (h, edge-sound (length d.outputs) (length d.components) h.from
 
 typed-of : (d : Declarations) (w : Wire) (e : Edge) → Ends d w e → IsTyped d w
 typed-of d w e h = record {
-  kind = type_of h.0.from;
+  value_type = type_of h.0.from;
   source = ap given_type h.0.source ∙ gives-type h.0.from e.source h.1.gives;
   sink = ap taken_type h.0.sink ∙ takes-type (length d.outputs) (length d.components) h.0.to e.place h.1.takes ∙ ap Some (sym h.1.same);
 }
@@ -250,13 +250,13 @@ edge-is d c a b l r = rw (l, r) refl
 edge-of : (d : Declarations) (c : Connect) → IsSound d → straight_end d c.left ≡ end_of d (wire_of c).source → straight_end d c.right ≡ end_of d (wire_of c).sink → IsTyped d (wire_of c)
     → IsForward (end_of d (wire_of c).source) (end_of d (wire_of c).sink) → (e : Edge) × (edge_of d c ≡ Some e) × At (no_joins d) e.place None
 edge-of d c s left right typed forward =
-    let a = has-end (end_of d (wire_of c).source) typed.kind typed.source in
-    let b = has-sink (end_of d (wire_of c).sink) typed.kind typed.sink in
-    let g : given_type (Some a.0) ≡ Some typed.kind = ap given_type (sym a.1) ∙ typed.source in
-    let t : taken_type (Some b.0) ≡ Some typed.kind = ap taken_type (sym b.1) ∙ typed.sink in
+    let a = has-end (end_of d (wire_of c).source) typed.value_type typed.source in
+    let b = has-sink (end_of d (wire_of c).sink) typed.value_type typed.sink in
+    let g : given_type (Some a.0) ≡ Some typed.value_type = ap given_type (sym a.1) ∙ typed.source in
+    let t : taken_type (Some b.0) ≡ Some typed.value_type = ap taken_type (sym b.1) ∙ typed.sink in
     let f1 : IsForward (Some a.0) (end_of d (wire_of c).sink) = subst (λ (o : Option End). IsForward o (end_of d (wire_of c).sink)) a.1 forward in
     let f2 : IsForward (Some a.0) (Some b.0) = subst (λ (o : Option End). IsForward (Some a.0) o) b.1 f1 in
-    let e = edge-complete (length d.outputs) (length d.components) a.0 b.0 typed.kind g t f2 (fits-place d (wire_of c).sink b.0 s b.1) in
+    let e = edge-complete (length d.outputs) (length d.components) a.0 b.0 typed.value_type g t f2 (fits-place d (wire_of c).sink b.0 s b.1) in
     let is = edge-sound (length d.outputs) (length d.components) a.0 b.0 e.0 e.1 in
     (e.0, edge-is d c a.0 b.0 (left ∙ a.1) (right ∙ b.1) ∙ e.1, place-free d (wire_of c).sink b.0 e.0.place s b.1 is.takes)
 
@@ -303,7 +303,7 @@ flat-found items parts connects size f =
     let outs = each-joined j.0 0 (length d.outputs)
     (λ m lt.
     let c = lt-at d.outputs m lt in
-    let r = fed (c.0.name ∷ []) (Output m c.0.kind) m (ref-output d m c.0 s.named c.1) refl refl in
+    let r = fed (c.0.name ∷ []) (Output m c.0.value_type) m (ref-output d m c.0 s.named c.1) refl refl in
     let place : 0 + m ≡ m = omega arith in
     (r.0, ap (slice_get j.0) place ∙ r.1)) in
     let ins = each-fed j.0 (length d.outputs) 0 d.components

@@ -33,9 +33,9 @@ pub record IsStraight (reference : Ref) : Type 0 where
 
 -- It joins what gives values to what takes values of the same type.
 pub record IsTyped (d : Declarations) (w : Wire) : Type 0 where
-  pub kind : ValueType
-  pub source : given_type (end_of d w.source) ≡ Some kind
-  pub sink : taken_type (end_of d w.sink) ≡ Some kind
+  pub value_type : ValueType
+  pub source : given_type (end_of d w.source) ≡ Some value_type
+  pub sink : taken_type (end_of d w.sink) ≡ Some value_type
 
 -- A component gives values only to components that are declared later.
 abbrev pub IsForward : Option End → Option End → Type 0

@@ -48,27 +48,27 @@ fn edge_between(outputs: usize, count: usize, from: End, to: End) -> Option<Edge
 {
     match (from, to) {
         (
-            End::Input { number, kind },
+            End::Input { number, value_type },
             End::Output {
                 number: place,
-                kind: other,
+                value_type: other,
             },
         ) => {
-            if same_type(kind, other) {
+            if same_type(value_type, other) {
                 let source = Source::Input(number);
                 return Some(Edge { place, source });
             }
             None
         }
         (
-            End::Input { number, kind },
+            End::Input { number, value_type },
             End::Taker {
                 component,
                 port,
-                kind: other,
+                value_type: other,
             },
         ) => {
-            if same_type(kind, other) && has_place(count, component, port) {
+            if same_type(value_type, other) && has_place(count, component, port) {
                 let place = input_place(outputs, component, port);
                 let source = Source::Input(number);
                 return Some(Edge { place, source });
@@ -76,13 +76,13 @@ fn edge_between(outputs: usize, count: usize, from: End, to: End) -> Option<Edge
             None
         }
         (
-            End::Giver { component, kind },
+            End::Giver { component, value_type },
             End::Output {
                 number: place,
-                kind: other,
+                value_type: other,
             },
         ) => {
-            if same_type(kind, other) {
+            if same_type(value_type, other) {
                 let source = Source::Component(component);
                 return Some(Edge { place, source });
             }
@@ -91,15 +91,15 @@ fn edge_between(outputs: usize, count: usize, from: End, to: End) -> Option<Edge
         (
             End::Giver {
                 component: giver,
-                kind,
+                value_type,
             },
             End::Taker {
                 component,
                 port,
-                kind: other,
+                value_type: other,
             },
         ) => {
-            if same_type(kind, other) && has_place(count, component, port) && giver < component {
+            if same_type(value_type, other) && has_place(count, component, port) && giver < component {
                 let place = input_place(outputs, component, port);
                 let source = Source::Component(giver);
                 return Some(Edge { place, source });

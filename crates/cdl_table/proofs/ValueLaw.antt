@@ -105,7 +105,7 @@ unfolding parse_of
 real-value field w e = judged-is (split field) w e
 
 -- a word that a field's text is read as is a value of the type
-pub word-value : (kind : ValueType) (field : List ℕ) (w : ℤ) → word_of kind field ≡ Some w → IsValue kind w
+pub word-value : (value_type : ValueType) (field : List ℕ) (w : ℤ) → word_of value_type field ≡ Some w → IsValue value_type w
 word-value Boolean field w e = boolean-value field w e
 word-value Integer field w e = integer-value field w e
 word-value Real field w e = real-value field w e
@@ -118,7 +118,7 @@ words-values [] [] (w ∷ ws) h = absurd h
 words-values [] (f ∷ fs) ws h = absurd h
 words-values (c ∷ cs) [] ws h = absurd h
 words-values (c ∷ cs) (f ∷ fs) [] h = absurd h
-words-values (c ∷ cs) (f ∷ fs) (w ∷ ws) h = (word-value c.kind f w h.0, words-values cs fs ws h.1)
+words-values (c ∷ cs) (f ∷ fs) (w ∷ ws) h = (word-value c.value_type f w h.0, words-values cs fs ws h.1)
 
 row-values : (columns : List Column) (fields : List (List ℕ)) (row : TableRow) → IsRow columns fields row → IsTime row.time × AreValues columns row.words
 row-values columns fields row h = (time-value h.first row.time h.time, words-values columns h.cells row.words h.words)

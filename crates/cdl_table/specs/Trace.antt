@@ -28,7 +28,7 @@ word_text (Enumeration c) w = []
 abbrev pub word_texts : List Column → List ℤ → List (List ℕ)
 word_texts [] ws = []
 word_texts (c ∷ cs) [] = []
-word_texts (c ∷ cs) (w ∷ ws) = word_text c.kind w ∷ word_texts cs ws
+word_texts (c ∷ cs) (w ∷ ws) = word_text c.value_type w ∷ word_texts cs ws
 
 -- the first record: `time` and the names of the outputs
 abbrev pub header_text : List Column → List ℕ

@@ -9,7 +9,7 @@ abbrev pub AreValues : List Column → List ℤ → Type 0
 AreValues [] [] = Unit {0}
 AreValues [] (w ∷ ws) = ⊥
 AreValues (c ∷ cs) [] = ⊥
-AreValues (c ∷ cs) (w ∷ ws) = IsValue c.kind w × AreValues cs ws
+AreValues (c ∷ cs) (w ∷ ws) = IsValue c.value_type w × AreValues cs ws
 
 -- each row has a time from 0 to 10^13, and a value for each column
 abbrev pub HaveValues : List Column → List TableRow → Type 0

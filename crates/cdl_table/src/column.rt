@@ -7,5 +7,5 @@ use cdl_source::Text;
 #[derive(Debug, Drop)]
 pub struct Column {
     pub name: Text,
-    pub kind: ValueType,
+    pub value_type: ValueType,
 }

@@ -224,11 +224,11 @@ fn wanted_class(word: &str) -> Result<Option<Found>, Fail> {
         "Real" => Ok(Some(Found::Scalar(ValueType::Real))),
         "String" => Ok(Some(Found::Scalar(ValueType::Str))),
         "RealInput" => Ok(Some(Found::Connector {
-            kind: ValueType::Real,
+            value_type: ValueType::Real,
             input: true,
         })),
         "IntegerOutput" => Ok(Some(Found::Connector {
-            kind: ValueType::Integer,
+            value_type: ValueType::Integer,
             input: false,
         })),
         _ => Ok(Some(kind_or_class(word)?)),
