@@ -1,7 +1,7 @@
 -- Where a rule stops at a token, the tokens behind that one play no part, nor does how much is left of the bounds.
 use Rattle.std.proofs.Common.{◌≡◌, ℕ, suc, ◌+◌, ◌≤◌, ◌<◌, [], ◌∷◌, ◌++◌, length, Option, Some, None, Ok, Err, refl, sym, ap, ◌∙◌, subst, arith, append_assoc, length-append}
 use Rattle.std.proofs.lemmas.List.{append_cancel_right}
-use Rattle.cdl_tree.specs.Words.{Terminal, Word}
+use Rattle.cdl_tree.specs.Words.{Lexeme, Word}
 use Rattle.cdl_parse.specs.Reading.{Outcome, Parser, and_then, pure, made}
 use Rattle.cdl_parse.proofs.Steps.{Shape, Meets, Reads, since_is, seam}
 
@@ -11,31 +11,31 @@ stops (Some a) j = Ok (a, j)
 stops None j = Err j
 
 pub record Alike {A : Type 0} (n m : ℕ) (P P' : Word → Parser A) : Type 0 where
-  pub alike : (u w r r' : Word) (x : Terminal) (o : Option A) → length (w ++ x ∷ r) ≤ n → length w < m
+  pub alike : (u w r r' : Word) (x : Lexeme) (o : Option A) → length (w ++ x ∷ r) ≤ n → length w < m
       → P (u ++ (w ++ x ∷ r)) (w ++ x ∷ r) ≡ stops o (x ∷ r) → P' (u ++ (w ++ x ∷ r')) (w ++ x ∷ r') ≡ stops o (x ∷ r')
 
 pub front : {A : Type 0} (R : Word → Word → A → Type 0) (u i : Word) (o : Option A) (j : Word) → Shape R u i (stops o j) → (w : Word) × (i ≡ w ++ j)
 front R u i (Some a) j s = (s.0, s.1)
 front R u i None j s = (s.0, s.3)
 
-pub never_back : (w r : Word) (x : Terminal) → r ≡ w ++ x ∷ r → ⊥
+pub never_back : (w r : Word) (x : Lexeme) → r ≡ w ++ x ∷ r → ⊥
 never_back w r x e = omega (arith, ap length e, length-append w (x ∷ r))
 
 -- a rule that began behind a token doesn't stop at it
-pub not_here : {B : Type 0} {n : ℕ} {Q : Word → Word → B → Type 0} {F : Word → Parser B} (u r : Word) (x : Terminal) (o : Option B) → Reads n Q F → length r ≤ n → F (u ++ x ∷ r) r ≡ stops o (x ∷ r) → ⊥
+pub not_here : {B : Type 0} {n : ℕ} {Q : Word → Word → B → Type 0} {F : Word → Parser B} (u r : Word) (x : Lexeme) (o : Option B) → Reads n Q F → length r ≤ n → F (u ++ x ∷ r) r ≡ stops o (x ∷ r) → ⊥
 not_here {B} {n} {Q} {F} u r x o h le e =
     let m = subst (λ z. Meets Q (u ++ x ∷ []) r (F z r)) (seam u x r) (h.reads (u ++ x ∷ []) r le) in
     let f = front Q (u ++ x ∷ []) r o (x ∷ r) (subst (Shape Q (u ++ x ∷ []) r) e m.shape) in
     never_back f.0 r x f.1
 
-pub past : {A : Type 0} {n m : ℕ} {P P' : Word → Parser A} → Alike n m P P' → (u v w r r' : Word) (x : Terminal) (a : A) → length (v ++ (w ++ x ∷ r)) ≤ n → length v < m
+pub past : {A : Type 0} {n m : ℕ} {P P' : Word → Parser A} → Alike n m P P' → (u v w r r' : Word) (x : Lexeme) (a : A) → length (v ++ (w ++ x ∷ r)) ≤ n → length v < m
     → P (u ++ (v ++ (w ++ x ∷ r))) (v ++ (w ++ x ∷ r)) ≡ Ok (a, w ++ x ∷ r) → P' (u ++ (v ++ (w ++ x ∷ r'))) (v ++ (w ++ x ∷ r')) ≡ Ok (a, w ++ x ∷ r')
 past h u v [] r r' x a le lt e = h.alike u v r r' x (Some a) le lt e
 past h u v (y ∷ w) r r' x a le lt e = h.alike u v (w ++ x ∷ r) (w ++ x ∷ r') y (Some a) le lt e
 
 module _ {A B : Type 0} {n m n' m' : ℕ} {R : Word → Word → A → Type 0} {Q : A → Word → Word → B → Type 0} {P P' : Word → Parser A} {F F' : A → Word → Parser B}
     (less : (u w : Word) (a : A) → R u w a → (n ≤ n' + length w) × (m ≤ m' + length w)) (p : Reads n R P) (f : (a : A) → Reads n' (Q a) (F a)) (same : Alike n m P P') (then_same : (a : A) → Alike n' m' (F a) (F' a)) where
-  pub second : (u v w r r' : Word) (x : Terminal) (o : Option B) (a : A) → R u v a → length (v ++ (w ++ x ∷ r)) ≤ n → length (v ++ w) < m
+  pub second : (u v w r r' : Word) (x : Lexeme) (o : Option B) (a : A) → R u v a → length (v ++ (w ++ x ∷ r)) ≤ n → length (v ++ w) < m
       → P (u ++ (v ++ (w ++ x ∷ r))) (v ++ (w ++ x ∷ r)) ≡ Ok (a, w ++ x ∷ r) → F a (u ++ (v ++ (w ++ x ∷ r))) (w ++ x ∷ r) ≡ stops o (x ∷ r)
       → and_then (P' (u ++ (v ++ (w ++ x ∷ r'))) (v ++ (w ++ x ∷ r'))) (λ a. F' a (u ++ (v ++ (w ++ x ∷ r')))) ≡ stops o (x ∷ r')
   second u v w r r' x o a h le lt e g =
@@ -46,7 +46,7 @@ module _ {A B : Type 0} {n m n' m' : ℕ} {R : Word → Word → A → Type 0} {
       ap (λ z. and_then z (λ a. F' a (u ++ (v ++ (w ++ x ∷ r'))))) first
       ∙ subst (λ z. F' a z (w ++ x ∷ r') ≡ stops o (x ∷ r')) (append_assoc u v (w ++ x ∷ r')) behind
 
-  pub turn : (u w r r' : Word) (x : Terminal) (o : Option B) → length (w ++ x ∷ r) ≤ n → length w < m → (s : Outcome A) → P (u ++ (w ++ x ∷ r)) (w ++ x ∷ r) ≡ s → Shape R u (w ++ x ∷ r) s
+  pub turn : (u w r r' : Word) (x : Lexeme) (o : Option B) → length (w ++ x ∷ r) ≤ n → length w < m → (s : Outcome A) → P (u ++ (w ++ x ∷ r)) (w ++ x ∷ r) ≡ s → Shape R u (w ++ x ∷ r) s
       → and_then s (λ a. F a (u ++ (w ++ x ∷ r))) ≡ stops o (x ∷ r) → and_then (P' (u ++ (w ++ x ∷ r')) (w ++ x ∷ r')) (λ a. F' a (u ++ (w ++ x ∷ r'))) ≡ stops o (x ∷ r')
   turn u w r r' x (Some b) le lt (Err j) e t g = cc
   turn u w r r' x None le lt (Err j) e t g =
@@ -74,7 +74,7 @@ fewer_alike ln lm h = record { alike = λ u w r r' x o le lt e. h.alike u w r r'
 
 -- ---- the steps
 
-pub nil_of : (w r : Word) (x : Terminal) → w ++ x ∷ r ≡ x ∷ r → w ≡ []
+pub nil_of : (w r : Word) (x : Lexeme) → w ++ x ∷ r ≡ x ∷ r → w ≡ []
 nil_of w r x e = append_cancel_right w [] (x ∷ r) e
 
 abbrev pub read_as : {A : Type 0} → A × Word → Outcome A
@@ -83,7 +83,7 @@ read_as p = Ok p
 pub same_pair : {A : Type 0} (p q : A × Word) → read_as p ≡ read_as q → p ≡ q
 same_pair p q e = cc
 
-pub pure_at : {A : Type 0} (a : A) (w r r' : Word) (x : Terminal) (o : Option A) → Ok (a, w ++ x ∷ r) ≡ stops o (x ∷ r) → Ok (a, w ++ x ∷ r') ≡ stops o (x ∷ r')
+pub pure_at : {A : Type 0} (a : A) (w r r' : Word) (x : Lexeme) (o : Option A) → Ok (a, w ++ x ∷ r) ≡ stops o (x ∷ r) → Ok (a, w ++ x ∷ r') ≡ stops o (x ∷ r')
 pure_at a w r r' x None e = cc
 pure_at a w r r' x (Some b) e =
     let both = same_pair _ _ e in
@@ -106,19 +106,19 @@ pub begun_alike : {A : Type 0} {n m : ℕ} {F F' : Word → Parser A} → Alike 
 begun_alike h = record { alike = λ u w r r' x o le lt e. h.alike [] w r r' x o le lt e }
 
 -- a rule that refuses whatever comes
-pub refuse_at : {A : Type 0} (w r r' : Word) (x : Terminal) (o : Option A) → Err (w ++ x ∷ r) ≡ stops o (x ∷ r) → Err (w ++ x ∷ r') ≡ stops o (x ∷ r')
+pub refuse_at : {A : Type 0} (w r r' : Word) (x : Lexeme) (o : Option A) → Err (w ++ x ∷ r) ≡ stops o (x ∷ r) → Err (w ++ x ∷ r') ≡ stops o (x ∷ r')
 refuse_at w r r' x (Some b) e = cc
 refuse_at w r r' x None e = let same : w ++ x ∷ r ≡ x ∷ r = cc in ap (λ z. Err (z ++ x ∷ r')) (nil_of w r x same)
 
 module _ {B : Type 0} {n m n' m' : ℕ} {Q : Word → Word → B → Type 0} {F F' : Word → Parser B} (ln : n ≤ suc n') (lm : m ≤ suc m') (f : Reads n' Q F) (same : Alike n' m' F F') where
   -- the rule began behind a token t
-  pub behind_alike : (u w r r' : Word) (t x : Terminal) (o : Option B) → length (t ∷ (w ++ x ∷ r)) ≤ n → length (t ∷ w) < m → F (u ++ t ∷ (w ++ x ∷ r)) (w ++ x ∷ r) ≡ stops o (x ∷ r)
+  pub behind_alike : (u w r r' : Word) (t x : Lexeme) (o : Option B) → length (t ∷ (w ++ x ∷ r)) ≤ n → length (t ∷ w) < m → F (u ++ t ∷ (w ++ x ∷ r)) (w ++ x ∷ r) ≡ stops o (x ∷ r)
       → F' (u ++ t ∷ (w ++ x ∷ r')) (w ++ x ∷ r') ≡ stops o (x ∷ r')
   behind_alike u w r r' t x o le lt e =
       subst (λ z. F' z (w ++ x ∷ r') ≡ stops o (x ∷ r')) (seam u t (w ++ x ∷ r'))
       (same.alike (u ++ t ∷ []) w r r' x o (omega (arith, le, ln)) (omega (arith, lt, lm)) (subst (λ z. F z (w ++ x ∷ r) ≡ stops o (x ∷ r)) (sym (seam u t (w ++ x ∷ r))) e))
 
-  pub behind_not : {Z : Type 0} (u r : Word) (x : Terminal) (o : Option B) → length (x ∷ r) ≤ n → F (u ++ x ∷ r) r ≡ stops o (x ∷ r) → Z
+  pub behind_not : {Z : Type 0} (u r : Word) (x : Lexeme) (o : Option B) → length (x ∷ r) ≤ n → F (u ++ x ∷ r) r ≡ stops o (x ∷ r) → Z
   behind_not u r x o le e = absurd (not_here u r x o f (omega (arith, le, ln)) e)
 
 -- where nothing is left of the bounds

@@ -3,19 +3,19 @@ use Rattle.std.proofs.Common.{◌≡◌, ℕ, ◌<◌, ℤ, Bool, true, false, L
 use Rattle.cdl_decimal.specs.declared.numeral.DecimalError.{DecimalError}
 use Rattle.cdl_decimal.specs.Split.{parse_of}
 use Rattle.cdl_tree.proofs.Reals.{real_read, real_is}
-use Rattle.cdl_tree.specs.declared.kind.Kind.{Kind}
-use Rattle.cdl_tree.specs.declared.kind.Kind.TheVariants as k
+use Rattle.cdl_tree.specs.declared.terminal.Terminal.{Terminal}
+use Rattle.cdl_tree.specs.declared.terminal.Terminal.TheVariants as the
 use Rattle.cdl_tree.specs.declared.name.Ident.{Ident}
 use Rattle.cdl_tree.specs.declared.expr.Op.{Op}
 use Rattle.cdl_tree.specs.declared.expr.Op.TheVariants as op
 use Rattle.cdl_tree.specs.declared.expr.Expr.{Expr}
-use Rattle.cdl_tree.specs.Words.{Terminal, Word, same_kind}
+use Rattle.cdl_tree.specs.Words.{Lexeme, Word, same_terminal}
 use Rattle.cdl_tree.specs.Literals.{IsReal}
 use Rattle.cdl_tree.specs.Trees.{the_ident, comparison, sign, factor}
 use Rattle.cdl_tree.specs.Grammar.{NameOf, single, dotted, ExprOf, conditional as a_conditional, logical, Lor, one_land, or_land, Land, one_lnot, and_lnot, Lnot, as_it_is, not_rel, Rel, one_sum, compared, Sum, one_term, signed as signed_term, added, Term, one_prim, times, Prim, integer as an_integer, real as a_real, string as a_string, true_word as a_true, false_word as a_false, paren as a_paren, array as an_array, call as a_call, refer as a_refer}
-use Rattle.cdl_parse.specs.Reading.{pure, kind, sees, ident, literal_by, literal, value_of, real_of}
+use Rattle.cdl_parse.specs.Reading.{pure, terminal, sees, ident, literal_by, literal, value_of, real_of}
 use Rattle.cdl_parse.specs.Expressions.{name, disjunction, conjunction}
-use Rattle.cdl_parse.proofs.Steps.{is_kind}
+use Rattle.cdl_parse.proofs.Steps.{is_terminal}
 use Rattle.cdl_parse.proofs.Laws.{member, each_at, alone, is_same, Law, shaped, Token, a_token, token_by, Reader, token_law, flagged, only, token_of}
 use Rattle.cdl_parse.proofs.Repeats.{Row, row_one, row_more, row_in, list_law}
 use Rattle.cdl_parse.proofs.Sets.{exprs, comparisons, after_name}
@@ -23,38 +23,38 @@ use Rattle.cdl_parse.proofs.Sets.{exprs, comparisons, after_name}
 -- ---- identifiers and literals
 
 pub data IdentOf : Word → Ident → Type 0 where
-  an_ident : (t : Terminal) → t.kind ≡ k.Identifier → IdentOf (t ∷ []) (the_ident t)
+  an_ident : (t : Lexeme) → t.terminal ≡ the.Identifier → IdentOf (t ∷ []) (the_ident t)
 
-abbrev pub ident_by : Bool → Terminal → Option Ident
+abbrev pub ident_by : Bool → Lexeme → Option Ident
 ident_by true t = Some (the_ident t)
 ident_by false t = None
 
-abbrev pub ident_at : Terminal → Option Ident
-ident_at t = ident_by (same_kind t.kind k.Identifier) t
+abbrev pub ident_at : Lexeme → Option Ident
+ident_at t = ident_by (same_terminal t.terminal the.Identifier) t
 
 pub ident_reader : Reader ident_at ident
-unfolding ident sees same_kind
-ident_reader = record { nil = refl; cons = λ t ts. cons t ts (same_kind t.kind k.Identifier) }
+unfolding ident sees same_terminal
+ident_reader = record { nil = refl; cons = λ t ts. cons t ts (same_terminal t.terminal the.Identifier) }
   where
-    cons : (t : Terminal) (ts : Word) (b : Bool) → (if b then pure (the_ident t) ts else Err (t ∷ ts)) ≡ token_by (ident_by b t) (t ∷ ts) ts
+    cons : (t : Lexeme) (ts : Word) (b : Bool) → (if b then pure (the_ident t) ts else Err (t ∷ ts)) ≡ token_by (ident_by b t) (t ∷ ts) ts
     cons t ts true = refl
     cons t ts false = refl
 
-pub ident_is : (t : Terminal) (a : Ident) → ident_at t ≡ Some a → (t.kind ≡ k.Identifier) × (the_ident t ≡ a)
-ident_is t a e = go (same_kind t.kind k.Identifier) refl e
+pub ident_is : (t : Lexeme) (a : Ident) → ident_at t ≡ Some a → (t.terminal ≡ the.Identifier) × (the_ident t ≡ a)
+ident_is t a e = go (same_terminal t.terminal the.Identifier) refl e
   where
-    go : (b : Bool) → same_kind t.kind k.Identifier ≡ b → ident_by b t ≡ Some a → (t.kind ≡ k.Identifier) × (the_ident t ≡ a)
-    go true f e = let same : the_ident t ≡ a = cc in (is_kind t.kind k.Identifier f, same)
+    go : (b : Bool) → same_terminal t.terminal the.Identifier ≡ b → ident_by b t ≡ Some a → (t.terminal ≡ the.Identifier) × (the_ident t ≡ a)
+    go true f e = let same : the_ident t ≡ a = cc in (is_terminal t.terminal the.Identifier f, same)
     go false f e = cc
 
-pub is_ident : (t : Terminal) → t.kind ≡ k.Identifier → ident_at t ≡ Some (the_ident t)
-is_ident t e = ap (λ b. ident_by b t) (is_same t.kind k.Identifier e)
+pub is_ident : (t : Lexeme) → t.terminal ≡ the.Identifier → ident_at t ≡ Some (the_ident t)
+is_ident t e = ap (λ b. ident_by b t) (is_same t.terminal the.Identifier e)
 
-pub ident_law : {n m : ℕ} {S : List Kind} → Law n m (λ u. IdentOf) (k.Identifier ∷ []) S (λ s. ident) (λ s. ident)
+pub ident_law : {n m : ℕ} {S : List Terminal} → Law n m (λ u. IdentOf) (the.Identifier ∷ []) S (λ s. ident) (λ s. ident)
 ident_law {S = S} =
     shaped goes comes
-    (token_law ident_at ident ident_reader (token_of k.Identifier) (the_ident (token_of k.Identifier)) (is_ident (token_of k.Identifier) refl) (k.Identifier ∷ [])
-    (λ t a e. alone t.kind k.Identifier ((ident_is t a e).0)) S)
+    (token_law ident_at ident ident_reader (token_of the.Identifier) (the_ident (token_of the.Identifier)) (is_ident (token_of the.Identifier) refl) (the.Identifier ∷ [])
+    (λ t a e. alone t.terminal the.Identifier ((ident_is t a e).0)) S)
   where
     goes : (u w : Word) (a : Ident) → Token ident_at u w a → IdentOf w a
     goes u _ a (a_token t e) = let both = ident_is t a e in subst (IdentOf (t ∷ [])) both.1 (an_ident t both.0)
@@ -65,43 +65,43 @@ ident_law {S = S} =
 pub ident_some : {w : Word} {a : Ident} → IdentOf w a → 0 < length w
 ident_some (an_ident t e) = omega arith
 
-abbrev pub valued : {A : Type 0} → (List ℕ → Option A) → Bool → Terminal → Option A
+abbrev pub valued : {A : Type 0} → (List ℕ → Option A) → Bool → Lexeme → Option A
 valued value true t = value t.text
 valued value false t = None
 
-abbrev pub literal_at : {A : Type 0} → Kind → (List ℕ → Option A) → Terminal → Option A
-literal_at kd value t = valued value (same_kind t.kind kd) t
+abbrev pub literal_at : {A : Type 0} → Terminal → (List ℕ → Option A) → Lexeme → Option A
+literal_at kd value t = valued value (same_terminal t.terminal kd) t
 
-module _ {A : Type 0} (kd : Kind) (value : List ℕ → Option A) where
-  pub literal_reader : only kd k.Nothing ≡ None → Reader (literal_at kd value) (literal kd value)
+module _ {A : Type 0} (kd : Terminal) (value : List ℕ → Option A) where
+  pub literal_reader : only kd the.Nothing ≡ None → Reader (literal_at kd value) (literal kd value)
   unfolding literal sees
-  literal_reader never = record { nil = nil (same_kind k.Nothing kd) never; cons = λ t ts. cons t ts (same_kind t.kind kd) }
+  literal_reader never = record { nil = nil (same_terminal the.Nothing kd) never; cons = λ t ts. cons t ts (same_terminal t.terminal kd) }
     where
       nil : (b : Bool) → flagged b ≡ None → (if b then literal_by (value []) [] else Err []) ≡ Err []
       nil true e = cc
       nil false e = refl
 
-      by : (t : Terminal) (ts : Word) (o : Option A) → literal_by o (t ∷ ts) ≡ token_by o (t ∷ ts) ts
+      by : (t : Lexeme) (ts : Word) (o : Option A) → literal_by o (t ∷ ts) ≡ token_by o (t ∷ ts) ts
       by t ts (Some a) = refl
       by t ts None = refl
 
-      cons : (t : Terminal) (ts : Word) (b : Bool) → (if b then literal_by (value t.text) (t ∷ ts) else Err (t ∷ ts)) ≡ token_by (valued value b t) (t ∷ ts) ts
+      cons : (t : Lexeme) (ts : Word) (b : Bool) → (if b then literal_by (value t.text) (t ∷ ts) else Err (t ∷ ts)) ≡ token_by (valued value b t) (t ∷ ts) ts
       cons t ts true = by t ts (value t.text)
       cons t ts false = refl
 
-  pub literal_is : (t : Terminal) (a : A) → literal_at kd value t ≡ Some a → (t.kind ≡ kd) × (value t.text ≡ Some a)
-  literal_is t a e = go (same_kind t.kind kd) refl e
+  pub literal_is : (t : Lexeme) (a : A) → literal_at kd value t ≡ Some a → (t.terminal ≡ kd) × (value t.text ≡ Some a)
+  literal_is t a e = go (same_terminal t.terminal kd) refl e
     where
-      go : (b : Bool) → same_kind t.kind kd ≡ b → valued value b t ≡ Some a → (t.kind ≡ kd) × (value t.text ≡ Some a)
-      go true f e = (is_kind t.kind kd f, e)
+      go : (b : Bool) → same_terminal t.terminal kd ≡ b → valued value b t ≡ Some a → (t.terminal ≡ kd) × (value t.text ≡ Some a)
+      go true f e = (is_terminal t.terminal kd f, e)
       go false f e = cc
 
-  pub is_literal : (t : Terminal) (a : A) → t.kind ≡ kd → value t.text ≡ Some a → literal_at kd value t ≡ Some a
-  is_literal t a e f = ap (λ b. valued value b t) (is_same t.kind kd e) ∙ f
+  pub is_literal : (t : Lexeme) (a : A) → t.terminal ≡ kd → value t.text ≡ Some a → literal_at kd value t ≡ Some a
+  is_literal t a e f = ap (λ b. valued value b t) (is_same t.terminal kd e) ∙ f
 
-  pub literal_law : {n m : ℕ} {S : List Kind} → only kd k.Nothing ≡ None → (v : Terminal) (a : A) → literal_at kd value v ≡ Some a
+  pub literal_law : {n m : ℕ} {S : List Terminal} → only kd the.Nothing ≡ None → (v : Lexeme) (a : A) → literal_at kd value v ≡ Some a
       → Law n m (Token (literal_at kd value)) (kd ∷ []) S (λ s. literal kd value) (λ s. literal kd value)
-  literal_law {S = S} never v a known = token_law (literal_at kd value) (literal kd value) (literal_reader never) v a known (kd ∷ []) (λ t a e. alone t.kind kd ((literal_is t a e).0)) S
+  literal_law {S = S} never v a known = token_law (literal_at kd value) (literal kd value) (literal_reader never) v a known (kd ∷ []) (λ t a e. alone t.terminal kd ((literal_is t a e).0)) S
 
 pub real_some : (bytes : List ℕ) (q : ℤ) → real_of bytes ≡ Some q → IsReal bytes q
 real_some bytes q e = go (parse_of bytes) refl e
@@ -115,112 +115,112 @@ some_real bytes q r = ap value_of (real_read bytes q r)
 
 -- ---- names
 
-pub name_row : {w : Word} {parts : List Ident} → NameOf w parts → Row k.Period IdentOf [] [] w parts
+pub name_row : {w : Word} {parts : List Ident} → NameOf w parts → Row the.Period IdentOf [] [] w parts
 name_row (single a h) = row_one [] (a ∷ []) (the_ident a) (an_ident a h)
 name_row (dotted p a n c h) = row_more [] (name_row n) p c (an_ident a h)
 
 pub name_single : (w : Word) (x : Ident) → IdentOf w x → NameOf w (x ∷ [])
 name_single _ _ (an_ident t h) = single t h
 
-pub name_dotted : (v w : Word) (t : Terminal) (xs : List Ident) (x : Ident) → NameOf v xs → t.kind ≡ k.Period → IdentOf w x → NameOf (v ++ t ∷ w) (xs ++ x ∷ [])
+pub name_dotted : (v w : Word) (t : Lexeme) (xs : List Ident) (x : Ident) → NameOf v xs → t.terminal ≡ the.Period → IdentOf w x → NameOf (v ++ t ∷ w) (xs ++ x ∷ [])
 name_dotted v _ t xs _ n e (an_ident a h) = dotted t a n e h
 
-pub name_in : (w : Word) (parts : List Ident) → Row k.Period IdentOf [] [] w parts → NameOf w parts
-name_in = row_in k.Period IdentOf NameOf name_single name_dotted
+pub name_in : (w : Word) (parts : List Ident) → Row the.Period IdentOf [] [] w parts → NameOf w parts
+name_in = row_in the.Period IdentOf NameOf name_single name_dotted
 
-pub name_law : (d d' : ℕ) → Law d d' (λ u. NameOf) (k.Identifier ∷ []) after_name (λ s. name d) (λ s. name d')
-unfolding name same_kind
-name_law d d' = shaped (λ u. name_in) (λ u w a n. name_row n) (list_law {U = k.Period ∷ after_name} k.Period refl after_name ident_law refl refl [])
+pub name_law : (d d' : ℕ) → Law d d' (λ u. NameOf) (the.Identifier ∷ []) after_name (λ s. name d) (λ s. name d')
+unfolding name same_terminal
+name_law d d' = shaped (λ u. name_in) (λ u w a n. name_row n) (list_law {U = the.Period ∷ after_name} the.Period refl after_name ident_law refl refl [])
 
 -- ---- how words of expressions begin, and that they are not empty
 
 abbrev pub Leads : Word → Type 0
-Leads w = (j : Word) → member exprs (kind (w ++ j)) ≡ true
+Leads w = (j : Word) → member exprs (terminal (w ++ j)) ≡ true
 
-pub one_of : (x kd : Kind) → kd ≡ x → member exprs x ≡ true → member exprs kd ≡ true
+pub one_of : (x kd : Terminal) → kd ≡ x → member exprs x ≡ true → member exprs kd ≡ true
 one_of x kd e h = subst (λ z. member exprs z ≡ true) (sym e) h
 
 pub leads_left : (v w : Word) → Leads v → Leads (v ++ w)
-leads_left v w f j = subst (λ z. member exprs (kind z) ≡ true) (sym (append_assoc v w j)) (f (w ++ j))
+leads_left v w f j = subst (λ z. member exprs (terminal z) ≡ true) (sym (append_assoc v w j)) (f (w ++ j))
 
 abbrev pub is_operator : Option Op → Bool
 is_operator None = false
 is_operator (Some o) = true
 
-module _ (operator : Kind → Option Op) (O : List Kind) (table : (kd : Kind) → is_operator (operator kd) ≡ member O kd) where
-  pub kinds_of : (kd : Kind) (o : Op) → operator kd ≡ Some o → member O kd ≡ true
-  kinds_of kd o e = sym (table kd) ∙ ap is_operator e
+module _ (operator : Terminal → Option Op) (O : List Terminal) (table : (kd : Terminal) → is_operator (operator kd) ≡ member O kd) where
+  pub terminals_of : (kd : Terminal) (o : Op) → operator kd ≡ Some o → member O kd ≡ true
+  terminals_of kd o e = sym (table kd) ∙ ap is_operator e
 
-pub factor_table : (kd : Kind) → is_operator (factor kd) ≡ member (k.Star ∷ k.Slash ∷ []) kd
-unfolding same_kind
-factor_table k.Star = refl
-factor_table k.Slash = refl
+pub factor_table : (kd : Terminal) → is_operator (factor kd) ≡ member (the.Star ∷ the.Slash ∷ []) kd
+unfolding same_terminal
+factor_table the.Star = refl
+factor_table the.Slash = refl
 factor_table _ = refl
 
-pub sign_table : (kd : Kind) → is_operator (sign kd) ≡ member (k.Plus ∷ k.Minus ∷ []) kd
-unfolding same_kind
-sign_table k.Plus = refl
-sign_table k.Minus = refl
+pub sign_table : (kd : Terminal) → is_operator (sign kd) ≡ member (the.Plus ∷ the.Minus ∷ []) kd
+unfolding same_terminal
+sign_table the.Plus = refl
+sign_table the.Minus = refl
 sign_table _ = refl
 
-pub comparison_table : (kd : Kind) → is_operator (comparison kd) ≡ member comparisons kd
-unfolding same_kind
-comparison_table k.Less = refl
-comparison_table k.LessEqual = refl
-comparison_table k.Greater = refl
-comparison_table k.GreaterEqual = refl
-comparison_table k.EqualEqual = refl
-comparison_table k.NotEqual = refl
+pub comparison_table : (kd : Terminal) → is_operator (comparison kd) ≡ member comparisons kd
+unfolding same_terminal
+comparison_table the.Less = refl
+comparison_table the.LessEqual = refl
+comparison_table the.Greater = refl
+comparison_table the.GreaterEqual = refl
+comparison_table the.EqualEqual = refl
+comparison_table the.NotEqual = refl
 comparison_table _ = refl
 
-pub and_table : (kd : Kind) → is_operator (conjunction kd) ≡ member (k.And ∷ []) kd
-unfolding same_kind
-and_table k.And = refl
+pub and_table : (kd : Terminal) → is_operator (conjunction kd) ≡ member (the.And ∷ []) kd
+unfolding same_terminal
+and_table the.And = refl
 and_table _ = refl
 
-pub or_table : (kd : Kind) → is_operator (disjunction kd) ≡ member (k.Or ∷ []) kd
-unfolding same_kind
-or_table k.Or = refl
+pub or_table : (kd : Terminal) → is_operator (disjunction kd) ≡ member (the.Or ∷ []) kd
+unfolding same_terminal
+or_table the.Or = refl
 or_table _ = refl
 
-pub only_one : (x kd : Kind) → member (x ∷ []) kd ≡ true → kd ≡ x
-only_one x kd e = go (same_kind x kd) refl e
+pub only_one : (x kd : Terminal) → member (x ∷ []) kd ≡ true → kd ≡ x
+only_one x kd e = go (same_terminal x kd) refl e
   where
-    go : (b : Bool) → same_kind x kd ≡ b → (if b then true else false) ≡ true → kd ≡ x
-    go true f e = sym (is_kind x kd f)
+    go : (b : Bool) → same_terminal x kd ≡ b → (if b then true else false) ≡ true → kd ≡ x
+    go true f e = sym (is_terminal x kd f)
     go false f e = cc
 
-pub and_is : (kd : Kind) (o : Op) → conjunction kd ≡ Some o → (kd ≡ k.And) × (o ≡ op.And)
+pub and_is : (kd : Terminal) (o : Op) → conjunction kd ≡ Some o → (kd ≡ the.And) × (o ≡ op.And)
 and_is kd o e =
-    let at : kd ≡ k.And = only_one k.And kd (kinds_of conjunction (k.And ∷ []) and_table kd o e) in
+    let at : kd ≡ the.And = only_one the.And kd (terminals_of conjunction (the.And ∷ []) and_table kd o e) in
     let same : Some op.And ≡ Some o = ap conjunction (sym at) ∙ e in
     (at, cc)
 
-pub or_is : (kd : Kind) (o : Op) → disjunction kd ≡ Some o → (kd ≡ k.Or) × (o ≡ op.Or)
+pub or_is : (kd : Terminal) (o : Op) → disjunction kd ≡ Some o → (kd ≡ the.Or) × (o ≡ op.Or)
 or_is kd o e =
-    let at : kd ≡ k.Or = only_one k.Or kd (kinds_of disjunction (k.Or ∷ []) or_table kd o e) in
+    let at : kd ≡ the.Or = only_one the.Or kd (terminals_of disjunction (the.Or ∷ []) or_table kd o e) in
     let same : Some op.Or ≡ Some o = ap disjunction (sym at) ∙ e in
     (at, cc)
 
-pub sign_leads : (kd : Kind) (o : Op) → sign kd ≡ Some o → member exprs kd ≡ true
-unfolding same_kind
-sign_leads kd o e = each_at (member exprs) kd (k.Plus ∷ k.Minus ∷ []) refl (kinds_of sign (k.Plus ∷ k.Minus ∷ []) sign_table kd o e)
+pub sign_leads : (kd : Terminal) (o : Op) → sign kd ≡ Some o → member exprs kd ≡ true
+unfolding same_terminal
+sign_leads kd o e = each_at (member exprs) kd (the.Plus ∷ the.Minus ∷ []) refl (terminals_of sign (the.Plus ∷ the.Minus ∷ []) sign_table kd o e)
 
 pub name_leads : {w : Word} {parts : List Ident} → NameOf w parts → Leads w
-unfolding same_kind
-name_leads (single a h) j = one_of k.Identifier a.kind h refl
+unfolding same_terminal
+name_leads (single a h) j = one_of the.Identifier a.terminal h refl
 name_leads (dotted {v} p a n c h) j = leads_left v (p ∷ a ∷ []) (name_leads n) j
 
 pub prim_leads : {w : Word} {e : Expr} → Prim w e → Leads w
-unfolding same_kind
-prim_leads (an_integer t h v) j = one_of k.Integer t.kind h refl
-prim_leads (a_real t h v) j = one_of k.Real t.kind h refl
-prim_leads (a_string t h v) j = one_of k.Str t.kind h refl
-prim_leads (a_true t h) j = one_of k.True t.kind h refl
-prim_leads (a_false t h) j = one_of k.False t.kind h refl
-prim_leads (a_paren a b h x g) j = one_of k.Open a.kind h refl
-prim_leads (an_array a b h x g) j = one_of k.OpenBrace a.kind h refl
-prim_leads (a_call f a b h i x g) j = one_of k.Identifier f.kind h refl
+unfolding same_terminal
+prim_leads (an_integer t h v) j = one_of the.Integer t.terminal h refl
+prim_leads (a_real t h v) j = one_of the.Real t.terminal h refl
+prim_leads (a_string t h v) j = one_of the.Str t.terminal h refl
+prim_leads (a_true t h) j = one_of the.True t.terminal h refl
+prim_leads (a_false t h) j = one_of the.False t.terminal h refl
+prim_leads (a_paren a b h x g) j = one_of the.Open a.terminal h refl
+prim_leads (an_array a b h x g) j = one_of the.OpenBrace a.terminal h refl
+prim_leads (a_call f a b h i x g) j = one_of the.Identifier f.terminal h refl
 prim_leads (a_refer {v} {w} n x) j = leads_left v w (name_leads n) j
 
 pub term_leads : {w : Word} {e : Expr} → Term w e → Leads w
@@ -229,7 +229,7 @@ term_leads (times {v} {w} t l f r) j = leads_left v (t ∷ w) (term_leads l) j
 
 pub sum_leads : {w : Word} {e : Expr} → Sum w e → Leads w
 sum_leads (one_term x) j = term_leads x j
-sum_leads (signed_term t {o = o} f x) j = sign_leads t.kind o f
+sum_leads (signed_term t {o = o} f x) j = sign_leads t.terminal o f
 sum_leads (added {v} {w} t l f r) j = leads_left v (t ∷ w) (sum_leads l) j
 
 pub rel_leads : {w : Word} {e : Expr} → Rel w e → Leads w
@@ -237,9 +237,9 @@ rel_leads (one_sum x) j = sum_leads x j
 rel_leads (compared {v} {w} t l f r) j = leads_left v (t ∷ w) (sum_leads l) j
 
 pub lnot_leads : {w : Word} {e : Expr} → Lnot w e → Leads w
-unfolding same_kind
+unfolding same_terminal
 lnot_leads (as_it_is x) j = rel_leads x j
-lnot_leads (not_rel t h x) j = one_of k.Not t.kind h refl
+lnot_leads (not_rel t h x) j = one_of the.Not t.terminal h refl
 
 pub land_leads : {w : Word} {e : Expr} → Land w e → Leads w
 land_leads (one_lnot x) j = lnot_leads x j
@@ -250,11 +250,11 @@ lor_leads (one_land x) j = land_leads x j
 lor_leads (or_land {v} {w} t l f r) j = leads_left v (t ∷ w) (lor_leads l) j
 
 pub expr_leads : {w : Word} {e : Expr} → ExprOf w e → Leads w
-unfolding same_kind
-expr_leads (a_conditional i t h c g x y) j = one_of k.If i.kind h refl
+unfolding same_terminal
+expr_leads (a_conditional i t h c g x y) j = one_of the.If i.terminal h refl
 expr_leads (logical x) j = lor_leads x j
 
-pub some_left : (v : Word) (t : Terminal) (w : Word) → 0 < length (v ++ t ∷ w)
+pub some_left : (v : Word) (t : Lexeme) (w : Word) → 0 < length (v ++ t ∷ w)
 some_left v t w = omega (arith, length-append v (t ∷ w))
 
 pub name_some : {w : Word} {parts : List Ident} → NameOf w parts → 0 < length w

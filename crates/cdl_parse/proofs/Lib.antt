@@ -12,6 +12,7 @@ pub mod Notes
 pub mod Args
 pub mod Decls
 pub mod Connects
+pub mod Statements
 pub mod Ends
 pub mod Blocks
 pub mod ClassLaws

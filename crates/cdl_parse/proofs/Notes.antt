@@ -1,10 +1,10 @@
 -- The laws of texts and annotations.
 use Rattle.std.proofs.Common.{◌≡◌, ℕ, zero, suc, ◌≤◌, ◌<◌, Bool, true, false, not, List, [], ◌∷◌, ◌++◌, length, Option, Some, None, Ok, Err, refl, sym, ap, ◌∙◌, subst, arith, if◌then◌else◌, append_assoc, append-nil, length-append}
-use Rattle.cdl_tree.specs.declared.kind.Kind.{Kind}
-use Rattle.cdl_tree.specs.declared.kind.Kind.TheVariants as k
-use Rattle.cdl_tree.specs.Words.{Terminal, Word, same_kind}
+use Rattle.cdl_tree.specs.declared.terminal.Terminal.{Terminal}
+use Rattle.cdl_tree.specs.declared.terminal.Terminal.TheVariants as the
+use Rattle.cdl_tree.specs.Words.{Lexeme, Word, same_terminal}
 use Rattle.cdl_tree.specs.Grammar.{partner, is_plain, Strings, one_string, more_strings, TextOf, no_text, text as some_text, Balanced, nothing, other, enclosed, Note, note as a_note_of, no_note, a_note, Tail, tail as a_tail}
-use Rattle.cdl_parse.specs.Reading.{Parser, Outcome, and_then, pure, kind, next, sees, after, expect}
+use Rattle.cdl_parse.specs.Reading.{Parser, Outcome, and_then, pure, terminal, next, sees, after, expect}
 use Rattle.cdl_parse.specs.Declarations as spec
 use Rattle.cdl_parse.proofs.Steps.{Then, both, Is, is, weakened, pure_reads}
 use Rattle.cdl_parse.proofs.Alike.{none_left}
@@ -21,10 +21,10 @@ abbrev pub AnyText : Word → Word → Unit {0} → Type 0
 AnyText u w a = TextOf w
 
 data PlusR (a : Unit {0}) (u : Word) : Word → Unit {0} → Type 0 where
-  plus_string : (p s : Terminal) → p.kind ≡ k.Plus → s.kind ≡ k.Str → PlusR a u (p ∷ s ∷ []) tt
+  plus_string : (p s : Lexeme) → p.terminal ≡ the.Plus → s.terminal ≡ the.Str → PlusR a u (p ∷ s ∷ []) tt
 
 abbrev plus_step : Unit {0} → Word → Parser (Unit {0})
-plus_step a s i = and_then (expect k.Plus i) (λ _. expect k.Str)
+plus_step a s i = and_then (expect the.Plus i) (λ _. expect the.Str)
 
 abbrev plus_loop : ℕ → Unit {0} → Word → Parser (Unit {0})
 plus_loop n a s = spec.strings_from n
@@ -35,29 +35,29 @@ added b i = if b then Ok (tt, next i) else Err i
 abbrev pub wanted : Bool → Word → Word → Outcome (Unit {0})
 wanted b i ts = if b then Ok (tt, ts) else Err i
 
-loop_is : Loop (λ kd. same_kind kd k.Plus) plus_step plus_loop
+loop_is : Loop (λ kd. same_terminal kd the.Plus) plus_step plus_loop
 unfolding spec.strings_from expect sees after
-loop_is = record { at_end = λ a s i. refl; turn = λ n a s i. turn n i (same_kind (kind i) k.Plus) }
+loop_is = record { at_end = λ a s i. refl; turn = λ n a s i. turn n i (same_terminal (terminal i) the.Plus) }
   where
-    turn : (n : ℕ) (i : Word) (b : Bool) → (if b then (λ i. and_then (expect k.Str i) (λ _. spec.strings_from n)) else pure tt) (if b then next i else i)
-        ≡ (if b then and_then (and_then (added b i) (λ _. expect k.Str)) (λ _. spec.strings_from n) else pure tt i)
+    turn : (n : ℕ) (i : Word) (b : Bool) → (if b then (λ i. and_then (expect the.Str i) (λ _. spec.strings_from n)) else pure tt) (if b then next i else i)
+        ≡ (if b then and_then (and_then (added b i) (λ _. expect the.Str)) (λ _. spec.strings_from n) else pure tt i)
     turn n i true = refl
     turn n i false = refl
 
-plus_goes : (a : Unit {0}) (u w : Word) (b : Unit {0}) → Then (One k.Plus) (λ _. One k.Str) u w b → PlusR a u w b
-plus_goes a u w b (both (a_token p {a = x} e) (a_token s {a = y} f)) = plus_string p s (only_is k.Plus p.kind x e) (only_is k.Str s.kind y f)
+plus_goes : (a : Unit {0}) (u w : Word) (b : Unit {0}) → Then (One the.Plus) (λ _. One the.Str) u w b → PlusR a u w b
+plus_goes a u w b (both (a_token p {a = x} e) (a_token s {a = y} f)) = plus_string p s (only_is the.Plus p.terminal x e) (only_is the.Str s.terminal y f)
 
-plus_comes : (a : Unit {0}) (u w : Word) (b : Unit {0}) → PlusR a u w b → Then (One k.Plus) (λ _. One k.Str) u w b
-plus_comes a u _ b (plus_string p s e f) = both (a_token p (is_only k.Plus p.kind e)) (a_token s (is_only k.Str s.kind f))
+plus_comes : (a : Unit {0}) (u w : Word) (b : Unit {0}) → PlusR a u w b → Then (One the.Plus) (λ _. One the.Str) u w b
+plus_comes a u _ b (plus_string p s e f) = both (a_token p (is_only the.Plus p.terminal e)) (a_token s (is_only the.Str s.terminal f))
 
 plus_some : (a : Unit {0}) (u w : Word) (b : Unit {0}) → PlusR a u w b → 0 < length w
 plus_some a u _ b (plus_string p s e f) = omega arith
 
 -- a string and what is added to it
 data Strung (u : Word) : Word → Type 0 where
-  strung : (s : Terminal) {y : Word} {a : Unit {0}} → s.kind ≡ k.Str → Repeats PlusR tt (u ++ s ∷ []) y a → Strung u (s ∷ y)
+  strung : (s : Lexeme) {y : Word} {a : Unit {0}} → s.terminal ≡ the.Str → Repeats PlusR tt (u ++ s ∷ []) y a → Strung u (s ∷ y)
 
-strung_more : (u v : Word) (p s : Terminal) → p.kind ≡ k.Plus → s.kind ≡ k.Str → Strung u v → Strung u (v ++ p ∷ s ∷ [])
+strung_more : (u v : Word) (p s : Lexeme) → p.terminal ≡ the.Plus → s.terminal ≡ the.Str → Strung u v → Strung u (v ++ p ∷ s ∷ [])
 strung_more u _ p s e f (strung t h r) = strung t h (snoc r (plus_string p s e f))
 
 strings_strung : (u : Word) {w : Word} → Strings w → Strung u w
@@ -65,102 +65,102 @@ strings_strung u (one_string s h) = strung s {a = tt} h stop
 strings_strung u (more_strings {v} p s x e f) = strung_more u v p s e f (strings_strung u x)
 
 -- what was read since the strings began
-strung_strings : (t : Terminal) → t.kind ≡ k.Str → {a b : Unit {0}} {u w : Word} → (v : Word) → Strings v → Repeats PlusR a u w b → Strings (v ++ w)
+strung_strings : (t : Lexeme) → t.terminal ≡ the.Str → {a b : Unit {0}} {u w : Word} → (v : Word) → Strings v → Repeats PlusR a u w b → Strings (v ++ w)
 strung_strings t h v x (stop) = subst Strings (sym (append-nil v)) x
 strung_strings t h v x (go {v = z} (plus_string p s e f) r) = subst Strings (append_assoc v (p ∷ s ∷ []) z) (strung_strings t h (v ++ p ∷ s ∷ []) (more_strings p s x e f) r)
 
-module _ (d d' : ℕ) (S : List Kind) (no_string : each (λ x. is_none (only k.Str x)) S ≡ true) (no_plus : each (λ kd. not (same_kind kd k.Plus)) S ≡ true) where
-  plus_law : (a : Unit {0}) → Law d d' (PlusR a) (k.Plus ∷ []) (k.Plus ∷ S) (plus_step a) (plus_step a)
-  unfolding same_kind
-  plus_law a = shaped (plus_goes a) (plus_comes a) (word_then k.Plus refl (expect_law {S = k.Plus ∷ S} k.Str refl))
+module _ (d d' : ℕ) (S : List Terminal) (no_string : each (λ x. is_none (only the.Str x)) S ≡ true) (no_plus : each (λ kd. not (same_terminal kd the.Plus)) S ≡ true) where
+  plus_law : (a : Unit {0}) → Law d d' (PlusR a) (the.Plus ∷ []) (the.Plus ∷ S) (plus_step a) (plus_step a)
+  unfolding same_terminal
+  plus_law a = shaped (plus_goes a) (plus_comes a) (word_then the.Plus refl (expect_law {S = the.Plus ∷ S} the.Str refl))
 
-  strings_law : (n m : ℕ) → n ≤ d → m ≤ d' → Law n m (Repeats PlusR tt) (k.Plus ∷ S) S (λ s. spec.strings_from n) (λ s. spec.strings_from m)
-  unfolding same_kind
+  strings_law : (n m : ℕ) → n ≤ d → m ≤ d' → Law n m (Repeats PlusR tt) (the.Plus ∷ S) S (λ s. spec.strings_from n) (λ s. spec.strings_from m)
+  unfolding same_terminal
   strings_law n m ln lm =
-      repeat_law d d' (λ kd. same_kind kd k.Plus) plus_step plus_step plus_loop plus_loop PlusR (k.Plus ∷ []) S (k.Plus ∷ S) loop_is loop_is plus_some plus_law (within_self (k.Plus ∷ S)) refl no_plus n m ln lm tt
+      repeat_law d d' (λ kd. same_terminal kd the.Plus) plus_step plus_step plus_loop plus_loop PlusR (the.Plus ∷ []) S (the.Plus ∷ S) loop_is loop_is plus_some plus_law (within_self (the.Plus ∷ S)) refl no_plus n m ln lm tt
 
-  text_goes : (u w : Word) (a : Unit {0}) → Chosen (only k.Str) (λ _. Repeats PlusR tt) (Is tt) u w a → TextOf w
+  text_goes : (u w : Word) (a : Unit {0}) → Chosen (only the.Str) (λ _. Repeats PlusR tt) (Is tt) u w a → TextOf w
   text_goes u w a (found t {a = b} {y = y} e r) =
-      let h = only_is k.Str t.kind b e in some_text (strung_strings t h (t ∷ []) (one_string t h) r)
+      let h = only_is the.Str t.terminal b e in some_text (strung_strings t h (t ∷ []) (one_string t h) r)
   text_goes u w a (missing is) = no_text
 
-  strung_chosen : (u w : Word) (a : Unit {0}) → Strung u w → Chosen (only k.Str) (λ _. Repeats PlusR tt) (Is tt) u w a
-  strung_chosen u _ a (strung s h r) = found s {a = tt} (is_only k.Str s.kind h) r
+  strung_chosen : (u w : Word) (a : Unit {0}) → Strung u w → Chosen (only the.Str) (λ _. Repeats PlusR tt) (Is tt) u w a
+  strung_chosen u _ a (strung s h r) = found s {a = tt} (is_only the.Str s.terminal h) r
 
-  text_comes : (u w : Word) (a : Unit {0}) → TextOf w → Chosen (only k.Str) (λ _. Repeats PlusR tt) (Is tt) u w a
+  text_comes : (u w : Word) (a : Unit {0}) → TextOf w → Chosen (only the.Str) (λ _. Repeats PlusR tt) (Is tt) u w a
   text_comes u _ a no_text = missing is
   text_comes u w a (some_text x) = strung_chosen u w a (strings_strung u x)
 
-  pub text_law : Law d d' AnyText (k.Str ∷ S) S (λ s. spec.text_of d) (λ s. spec.text_of d')
-  unfolding spec.text_of same_kind
+  pub text_law : Law d d' AnyText (the.Str ∷ S) S (λ s. spec.text_of d) (λ s. spec.text_of d')
+  unfolding spec.text_of same_terminal
   text_law =
-      wider (k.Str ∷ S) S (within_self (k.Str ∷ S)) (within_self S)
-      (shaped text_goes text_comes (eaten_law {n' = d} {m' = d'} k.Str refl (omega arith) (omega arith)
-      (wider (k.Plus ∷ S) S (within_self (k.Plus ∷ S)) (within_self S) (strings_law d d' (omega arith) (omega arith))) (pure_law {S = S} tt) no_string))
+      wider (the.Str ∷ S) S (within_self (the.Str ∷ S)) (within_self S)
+      (shaped text_goes text_comes (eaten_law {n' = d} {m' = d'} the.Str refl (omega arith) (omega arith)
+      (wider (the.Plus ∷ S) S (within_self (the.Plus ∷ S)) (within_self S) (strings_law d d' (omega arith) (omega arith))) (pure_law {S = S} tt) no_string))
 
 -- ---- balanced tokens
 
 abbrev plain_by : Bool → Option (Unit {0})
 plain_by b = flagged b
 
-abbrev plain_at : Terminal → Option (Unit {0})
-plain_at t = flagged (is_plain t.kind)
+abbrev plain_at : Lexeme → Option (Unit {0})
+plain_at t = flagged (is_plain t.terminal)
 
 plain_reader : Reader plain_at spec.plain
 unfolding spec.plain
-plain_reader = record { nil = refl; cons = λ t ts. cons t ts (is_plain t.kind) }
+plain_reader = record { nil = refl; cons = λ t ts. cons t ts (is_plain t.terminal) }
   where
-    cons : (t : Terminal) (ts : Word) (b : Bool) → wanted b (t ∷ ts) ts ≡ token_by (flagged b) (t ∷ ts) ts
+    cons : (t : Lexeme) (ts : Word) (b : Bool) → wanted b (t ∷ ts) ts ≡ token_by (flagged b) (t ∷ ts) ts
     cons t ts true = refl
     cons t ts false = refl
 
-plain_table : (kd : Kind) → is_plain kd ≡ member plains kd
-unfolding same_kind
-plain_table k.Open = refl
-plain_table k.OpenBracket = refl
-plain_table k.OpenBrace = refl
+plain_table : (kd : Terminal) → is_plain kd ≡ member plains kd
+unfolding same_terminal
+plain_table the.Open = refl
+plain_table the.OpenBracket = refl
+plain_table the.OpenBrace = refl
 plain_table _ = refl
 
-plain_is : (kd : Kind) (a : Unit {0}) → flagged (is_plain kd) ≡ Some a → is_plain kd ≡ true
+plain_is : (kd : Terminal) (a : Unit {0}) → flagged (is_plain kd) ≡ Some a → is_plain kd ≡ true
 plain_is kd a e = at (is_plain kd) e
   where
     at : (b : Bool) → flagged b ≡ Some a → b ≡ true
     at true f = refl
     at false f = cc
 
-closer_ok : Option Kind → Bool
+closer_ok : Option Terminal → Bool
 closer_ok None = true
 closer_ok (Some c) = member closers c
 
-abbrev opens : Option Kind → Bool
+abbrev opens : Option Terminal → Bool
 opens None = false
 opens (Some c) = true
 
-partner_table : (kd : Kind) → closer_ok (partner kd) ≡ true
-unfolding closer_ok same_kind
-partner_table k.Open = refl
-partner_table k.OpenBracket = refl
-partner_table k.OpenBrace = refl
+partner_table : (kd : Terminal) → closer_ok (partner kd) ≡ true
+unfolding closer_ok same_terminal
+partner_table the.Open = refl
+partner_table the.OpenBracket = refl
+partner_table the.OpenBrace = refl
 partner_table _ = refl
 
-opener_table : (kd : Kind) → opens (partner kd) ≡ member openers kd
-unfolding same_kind
-opener_table k.Open = refl
-opener_table k.OpenBracket = refl
-opener_table k.OpenBrace = refl
+opener_table : (kd : Terminal) → opens (partner kd) ≡ member openers kd
+unfolding same_terminal
+opener_table the.Open = refl
+opener_table the.OpenBracket = refl
+opener_table the.OpenBrace = refl
 opener_table _ = refl
 
-closer_of : (kd c : Kind) → partner kd ≡ Some c → member closers c ≡ true
+closer_of : (kd c : Terminal) → partner kd ≡ Some c → member closers c ≡ true
 unfolding closer_ok
 closer_of kd c e = sym (ap closer_ok e) ∙ partner_table kd
 
-opener_of : (kd c : Kind) → partner kd ≡ Some c → member openers kd ≡ true
+opener_of : (kd c : Terminal) → partner kd ≡ Some c → member openers kd ≡ true
 opener_of kd c e = sym (opener_table kd) ∙ ap opens e
 
 -- a token, or brackets and what they enclose
 data PartB : Word → Type 0 where
-  plain : (t : Terminal) → is_plain t.kind ≡ true → PartB (t ∷ [])
-  pair : (a b : Terminal) {v : Word} {c : Kind} → partner a.kind ≡ Some c → Balanced v → b.kind ≡ c → PartB (a ∷ (v ++ b ∷ []))
+  plain : (t : Lexeme) → is_plain t.terminal ≡ true → PartB (t ∷ [])
+  pair : (a b : Lexeme) {v : Word} {c : Terminal} → partner a.terminal ≡ Some c → Balanced v → b.terminal ≡ c → PartB (a ∷ (v ++ b ∷ []))
 
 abbrev PartR : Unit {0} → Word → Word → Unit {0} → Type 0
 PartR a u w b = PartB w
@@ -183,16 +183,16 @@ part_some a u _ b (pair x y h v e) = omega arith
 abbrev AnyBalanced : Word → Word → Unit {0} → Type 0
 AnyBalanced u w a = Balanced w
 
-abbrev InsideR : Kind → Word → Word → Unit {0} → Type 0
+abbrev InsideR : Terminal → Word → Word → Unit {0} → Type 0
 InsideR c = Then AnyBalanced (λ _. One c)
 
 part_goes : (u w : Word) (b : Unit {0}) → Chosen partner InsideR (Token plain_at) u w b → PartB w
-part_goes u w b (found t {a = c} e (both x (a_token s {a = r} f))) = pair t s e x (only_is c s.kind r f)
-part_goes u w b (missing (a_token t {a = r} e)) = plain t (plain_is t.kind r e)
+part_goes u w b (found t {a = c} e (both x (a_token s {a = r} f))) = pair t s e x (only_is c s.terminal r f)
+part_goes u w b (missing (a_token t {a = r} e)) = plain t (plain_is t.terminal r e)
 
 part_comes : (u w : Word) (b : Unit {0}) → PartB w → Chosen partner InsideR (Token plain_at) u w b
 part_comes u _ b (plain t h) = missing (a_token t (ap flagged h))
-part_comes u _ b (pair s t {c = c} h x e) = found s h (both x (a_token t (is_only c t.kind e)))
+part_comes u _ b (pair s t {c = c} h x e) = found s h (both x (a_token t (is_only c t.terminal e)))
 
 abbrev part_step : Parser (Unit {0}) → Unit {0} → Word → Parser (Unit {0})
 part_step p a s = spec.balanced_part p
@@ -202,45 +202,45 @@ part_loop p n a s = spec.balanced_from p n
 
 parts_loop : (p : Parser (Unit {0})) → Loop spec.begins_balanced (part_step p) (part_loop p)
 unfolding spec.balanced_from
-parts_loop p = record { at_end = λ a s i. refl; turn = λ n a s i. turn n i (spec.begins_balanced (kind i)) }
+parts_loop p = record { at_end = λ a s i. refl; turn = λ n a s i. turn n i (spec.begins_balanced (terminal i)) }
   where
     turn : (n : ℕ) (i : Word) (b : Bool) → (if b then (λ i. and_then (spec.balanced_part p i) (λ _. spec.balanced_from p n)) else pure tt) i
         ≡ (if b then and_then (spec.balanced_part p i) (λ _. spec.balanced_from p n) else pure tt i)
     turn n i true = refl
     turn n i false = refl
 
-part_is : (p : Parser (Unit {0})) (s i : Word) (o : Option Kind) → spec.balanced_by p o i ≡ chosen_by (λ c s i. and_then (p i) (λ _. expect c)) (λ s. spec.plain) o s i
+part_is : (p : Parser (Unit {0})) (s i : Word) (o : Option Terminal) → spec.balanced_by p o i ≡ chosen_by (λ c s i. and_then (p i) (λ _. expect c)) (λ s. spec.plain) o s i
 part_is p s i None = refl
 part_is p s i (Some c) = refl
 
-plain_law : {n m : ℕ} (S : List Kind) → Law n m (Token plain_at) plains S (λ s. spec.plain) (λ s. spec.plain)
-plain_law S = token_law plain_at spec.plain plain_reader (token_of k.Comma) tt refl plains (λ t a e. sym (plain_table t.kind) ∙ plain_is t.kind a e) S
+plain_law : {n m : ℕ} (S : List Terminal) → Law n m (Token plain_at) plains S (λ s. spec.plain) (λ s. spec.plain)
+plain_law S = token_law plain_at spec.plain plain_reader (token_of the.Comma) tt refl plains (λ t a e. sym (plain_table t.terminal) ∙ plain_is t.terminal a e) S
 
 module _ (d d' : ℕ) (p p' : Parser (Unit {0})) (h : Law d d' AnyBalanced (balanceds ++ closers) closers (λ s. p) (λ s. p')) where
-  inside_law : (kd c : Kind) → partner kd ≡ Some c → Law d d' (InsideR c) (balanceds ++ closers) (balanceds ++ closers) (λ s i. and_then (p i) (λ _. expect c)) (λ s i. and_then (p' i) (λ _. expect c))
-  unfolding same_kind
+  inside_law : (kd c : Terminal) → partner kd ≡ Some c → Law d d' (InsideR c) (balanceds ++ closers) (balanceds ++ closers) (λ s i. and_then (p i) (λ _. expect c)) (λ s i. and_then (p' i) (λ _. expect c))
+  unfolding same_terminal
   inside_law kd c e =
       let is = closer_of kd c e in
-      then_law {U = closers} h (λ _. expect_law {S = balanceds ++ closers} c (none_is (only c k.Nothing) (each_at (λ x. is_none (only x k.Nothing)) c closers refl is))) (ap (λ b. if b then true else false) is)
+      then_law {U = closers} h (λ _. expect_law {S = balanceds ++ closers} c (none_is (only c the.Nothing) (each_at (λ x. is_none (only x the.Nothing)) c closers refl is))) (ap (λ b. if b then true else false) is)
 
   part_law : (a : Unit {0}) → Law (suc d) (suc d') (PartR a) (openers ++ plains) (balanceds ++ closers) (part_step p a) (part_step p' a)
-  unfolding spec.balanced_part same_kind
+  unfolding spec.balanced_part same_terminal
   part_law a =
       shaped part_goes part_comes
-      (like (λ s i. part_is p s i (partner (kind i))) (λ s i. part_is p' s i (partner (kind i)))
+      (like (λ s i. part_is p s i (partner (terminal i))) (λ s i. part_is p' s i (partner (terminal i)))
       (chosen_law {n' = d} {m' = d'} partner refl (omega arith) (omega arith) openers (λ kd c e. opener_of kd c e) (λ kd c e. inside_law kd c e) (plain_law (balanceds ++ closers)) refl))
 
   parts_law : (n m : ℕ) → n ≤ suc d → m ≤ suc d' → Law n m AnyBalanced (balanceds ++ closers) closers (λ s. spec.balanced_from p n) (λ s. spec.balanced_from p' m)
-  unfolding same_kind
+  unfolding same_terminal
   parts_law n m ln lm =
       shaped (λ u w a x. parts_in x) (λ u w a x. parts_out u x)
       (repeat_law (suc d) (suc d') spec.begins_balanced (part_step p) (part_step p') (part_loop p) (part_loop p') PartR balanceds closers (balanceds ++ closers) (parts_loop p) (parts_loop p') part_some part_law
       (within_self (balanceds ++ closers)) refl refl n m ln lm tt)
 
-balanced_heads : (w j : Word) → Balanced w → member closers (kind j) ≡ true → member (balanceds ++ closers) (kind (w ++ j)) ≡ true
-balanced_heads _ j nothing i = member_right balanceds closers (kind j) i
-balanced_heads _ j (other t h x) i = member_left balanceds closers t.kind (member_right openers plains t.kind (sym (plain_table t.kind) ∙ h))
-balanced_heads _ j (enclosed a b {c = c} h x e y) i = member_left balanceds closers a.kind (member_left openers plains a.kind (opener_of a.kind c h))
+balanced_heads : (w j : Word) → Balanced w → member closers (terminal j) ≡ true → member (balanceds ++ closers) (terminal (w ++ j)) ≡ true
+balanced_heads _ j nothing i = member_right balanceds closers (terminal j) i
+balanced_heads _ j (other t h x) i = member_left balanceds closers t.terminal (member_right openers plains t.terminal (sym (plain_table t.terminal) ∙ h))
+balanced_heads _ j (enclosed a b {c = c} h x e y) i = member_left balanceds closers a.terminal (member_left openers plains a.terminal (opener_of a.terminal c h))
 
 abbrev read_none : Word → Outcome (Unit {0})
 read_none j = Ok (tt, j)
@@ -267,45 +267,45 @@ balanced_law (suc d) (suc d') = parts_law d d' (spec.balanced d) (spec.balanced 
 -- ---- annotations
 
 abbrev NoteR : Word → Word → Unit {0} → Type 0
-NoteR = Then (One k.Annotation) (λ _. Then (One k.Open) (λ _. Then AnyBalanced (λ _. One k.Close)))
+NoteR = Then (One the.Annotation) (λ _. Then (One the.Open) (λ _. Then AnyBalanced (λ _. One the.Close)))
 
 note_goes : (u w : Word) (a : Unit {0}) → NoteR u w a → Note w
 note_goes u w a (both (a_token t {a = x} e) (both (a_token p {a = y} f) (both b (a_token q {a = z} g)))) =
-    a_note_of t p q (only_is k.Annotation t.kind x e) (only_is k.Open p.kind y f) b (only_is k.Close q.kind z g)
+    a_note_of t p q (only_is the.Annotation t.terminal x e) (only_is the.Open p.terminal y f) b (only_is the.Close q.terminal z g)
 
 note_comes : (u w : Word) (a : Unit {0}) → Note w → NoteR u w a
 note_comes u _ a (a_note_of t p q e f b g) =
-    both (a_token t (is_only k.Annotation t.kind e)) (both (a_token p (is_only k.Open p.kind f)) (both b (a_token q (is_only k.Close q.kind g))))
+    both (a_token t (is_only the.Annotation t.terminal e)) (both (a_token p (is_only the.Open p.terminal f)) (both b (a_token q (is_only the.Close q.terminal g))))
 
-pub note_law : (d d' : ℕ) (S : List Kind) → Law d d' AnyNote (k.Annotation ∷ []) S (λ s. spec.note d) (λ s. spec.note d')
-unfolding spec.note same_kind
-note_law d d' S = shaped note_goes note_comes (word_then k.Annotation refl (word_then k.Open refl (then_law {U = closers} (balanced_law d d') (λ _. expect_law {S = S} k.Close refl) refl)))
+pub note_law : (d d' : ℕ) (S : List Terminal) → Law d d' AnyNote (the.Annotation ∷ []) S (λ s. spec.note d) (λ s. spec.note d')
+unfolding spec.note same_terminal
+note_law d d' S = shaped note_goes note_comes (word_then the.Annotation refl (word_then the.Open refl (then_law {U = closers} (balanced_law d d') (λ _. expect_law {S = S} the.Close refl) refl)))
 
 -- note ";"
 pub data NoteClause : Word → Type 0 where
-  note_clause : {w : Word} (s : Terminal) → Note w → s.kind ≡ k.Semicolon → NoteClause (w ++ s ∷ [])
+  note_clause : {w : Word} (s : Lexeme) → Note w → s.terminal ≡ the.Semicolon → NoteClause (w ++ s ∷ [])
 
 pub note_some : {w : Word} → NoteClause w → 0 < length w
 note_some (note_clause {w} s n e) = omega (arith, length-append w (s ∷ []))
 
-pub note_clause_law : (d d' : ℕ) (S : List Kind) → Law d d' (λ u w a. NoteClause w) (k.Annotation ∷ []) S (λ s. spec.note_clause d) (λ s. spec.note_clause d')
-unfolding spec.note_clause same_kind
-note_clause_law d d' S = shaped goes comes (then_law {U = k.Semicolon ∷ []} (note_law d d' (k.Semicolon ∷ [])) (λ _. expect_law {S = S} k.Semicolon refl) refl)
+pub note_clause_law : (d d' : ℕ) (S : List Terminal) → Law d d' (λ u w a. NoteClause w) (the.Annotation ∷ []) S (λ s. spec.note_clause d) (λ s. spec.note_clause d')
+unfolding spec.note_clause same_terminal
+note_clause_law d d' S = shaped goes comes (then_law {U = the.Semicolon ∷ []} (note_law d d' (the.Semicolon ∷ [])) (λ _. expect_law {S = S} the.Semicolon refl) refl)
   where
-    goes : (u w : Word) (a : Unit {0}) → Then AnyNote (λ _. One k.Semicolon) u w a → NoteClause w
-    goes u w a (both n (a_token s {a = x} e)) = note_clause s n (only_is k.Semicolon s.kind x e)
+    goes : (u w : Word) (a : Unit {0}) → Then AnyNote (λ _. One the.Semicolon) u w a → NoteClause w
+    goes u w a (both n (a_token s {a = x} e)) = note_clause s n (only_is the.Semicolon s.terminal x e)
 
-    comes : (u w : Word) (a : Unit {0}) → NoteClause w → Then AnyNote (λ _. One k.Semicolon) u w a
-    comes u _ a (note_clause s n e) = both {a = tt} n (a_token s (is_only k.Semicolon s.kind e))
+    comes : (u w : Word) (a : Unit {0}) → NoteClause w → Then AnyNote (λ _. One the.Semicolon) u w a
+    comes u _ a (note_clause s n e) = both {a = tt} n (a_token s (is_only the.Semicolon s.terminal e))
 
 -- ---- tails
 
 pub tail_law : (d d' : ℕ) → Law d d' (λ u w a. Tail w) after_condition after_tail (λ s. spec.tail d) (λ s. spec.tail d')
-unfolding spec.tail sees same_kind
+unfolding spec.tail sees same_terminal
 tail_law d d' =
     shaped goes comes
-    (then_law {U = k.Annotation ∷ after_tail} (text_law d d' (k.Annotation ∷ after_tail) refl refl)
-    (λ _. either_law (λ kd. same_kind kd k.Annotation) (note_law d d' after_tail) (pure_law {S = after_tail} tt) refl refl) refl)
+    (then_law {U = the.Annotation ∷ after_tail} (text_law d d' (the.Annotation ∷ after_tail) refl refl)
+    (λ _. either_law (λ kd. same_terminal kd the.Annotation) (note_law d d' after_tail) (pure_law {S = after_tail} tt) refl refl) refl)
   where
     goes : (u w : Word) (a : Unit {0}) → Then AnyText (λ _. Or AnyNote (Is tt)) u w a → Tail w
     goes u w a (both x (this n)) = a_tail x (a_note n)

@@ -1,13 +1,13 @@
 -- The laws of loops: steps one after another, lists with a separator, and operators that group to the left.
 use Rattle.std.proofs.Common.{◌≡◌, ℕ, zero, suc, ◌≤◌, ◌<◌, Bool, true, false, not, List, [], ◌∷◌, ◌++◌, length, Option, Some, None, Ok, Err, refl, sym, ap, ◌∙◌, subst, arith, if◌then◌else◌, append_assoc, append-nil, length-append}
-use Rattle.cdl_tree.specs.declared.kind.Kind.{Kind}
-use Rattle.cdl_tree.specs.declared.kind.Kind.TheVariants as k
+use Rattle.cdl_tree.specs.declared.terminal.Terminal.{Terminal}
+use Rattle.cdl_tree.specs.declared.terminal.Terminal.TheVariants as the
 use Rattle.cdl_tree.specs.declared.expr.Op.{Op}
 use Rattle.cdl_tree.specs.declared.expr.Expr.{Expr}
 use Rattle.cdl_tree.specs.declared.expr.Node.TheVariants as node
-use Rattle.cdl_tree.specs.Words.{Terminal, Word, same_kind}
+use Rattle.cdl_tree.specs.Words.{Lexeme, Word, same_terminal}
 use Rattle.cdl_tree.specs.Trees.{tree}
-use Rattle.cdl_parse.specs.Reading.{Outcome, Parser, and_then, pure, kind, next, sees, after, expect, made, list_from, list}
+use Rattle.cdl_parse.specs.Reading.{Outcome, Parser, and_then, pure, terminal, next, sees, after, expect, made, list_from, list}
 use Rattle.cdl_parse.specs.Expressions.{grouped_by, grouped_from}
 use Rattle.cdl_parse.proofs.Steps.{Then, both, Is, is, Made, is_made, weakened, pure_reads, seam}
 use Rattle.cdl_parse.proofs.Alike.{none_left, none_right}
@@ -31,18 +31,18 @@ fold X grow x (stop {a = a} {u = u}) = subst (λ z. X z a) (sym (append-nil u)) 
 fold X grow x (go {a = a} {b = b} {c = c} {u = u} {w = w} {v = v} y r) = subst (λ z. X z c) (append_assoc u w v) (fold X grow (grow u w a b x y) r)
 
 -- Where the next token is of K, a step is made.
-pub record Loop {A : Type 0} (K : Kind → Bool) (step : A → Word → Parser A) (loop : ℕ → A → Word → Parser A) : Type 0 where
+pub record Loop {A : Type 0} (K : Terminal → Bool) (step : A → Word → Parser A) (loop : ℕ → A → Word → Parser A) : Type 0 where
   pub at_end : (a : A) (s i : Word) → loop zero a s i ≡ pure a i
-  pub turn : (n : ℕ) (a : A) (s i : Word) → loop (suc n) a s i ≡ (if K (kind i) then and_then (step a s i) (λ b. loop n b s) else pure a i)
+  pub turn : (n : ℕ) (a : A) (s i : Word) → loop (suc n) a s i ≡ (if K (terminal i) then and_then (step a s i) (λ b. loop n b s) else pure a i)
 
-module _ {A : Type 0} (d d' : ℕ) (K : Kind → Bool) (step step' : A → Word → Parser A) (loop loop' : ℕ → A → Word → Parser A) (Y : A → Word → Word → A → Type 0) (T S U : List Kind)
+module _ {A : Type 0} (d d' : ℕ) (K : Terminal → Bool) (step step' : A → Word → Parser A) (loop loop' : ℕ → A → Word → Parser A) (Y : A → Word → Word → A → Type 0) (T S U : List Terminal)
     (l : Loop K step loop) (l' : Loop K step' loop') (some : (a : A) (u w : Word) (b : A) → Y a u w b → 0 < length w) (f : (a : A) → Law d d' (Y a) T U (step a) (step' a))
     (sub : within (T ++ S) U ≡ true) (yes_there : each K T ≡ true) (not_there : each (λ kd. not (K kd)) S ≡ true) where
-  repeats_heads : (a : A) (u w j : Word) (b : A) → Repeats Y a u w b → member S (kind j) ≡ true → member (T ++ S) (kind (w ++ j)) ≡ true
-  repeats_heads a u _ j b stop i = member_right T S (kind j) i
+  repeats_heads : (a : A) (u w j : Word) (b : A) → Repeats Y a u w b → member S (terminal j) ≡ true → member (T ++ S) (terminal (w ++ j)) ≡ true
+  repeats_heads a u _ j b stop i = member_right T S (terminal j) i
   repeats_heads a u _ j c (go {b = b} {w = w} {v = v} y r) i =
-      let behind = each_at (member U) (kind (v ++ j)) (T ++ S) sub (repeats_heads b (u ++ w) v j c r i) in
-      member_left T S (kind ((w ++ v) ++ j)) (subst (λ z. member T (kind z) ≡ true) (sym (append_assoc w v j)) ((f a).heads.heads u w (v ++ j) b y behind))
+      let behind = each_at (member U) (terminal (v ++ j)) (T ++ S) sub (repeats_heads b (u ++ w) v j c r i) in
+      member_left T S (terminal ((w ++ v) ++ j)) (subst (λ z. member T (terminal z) ≡ true) (sym (append_assoc w v j)) ((f a).heads.heads u w (v ++ j) b y behind))
 
   goes : (a : A) (u w : Word) (c : A) → Or (Then (Y a) (λ b. Repeats Y b)) (Is a) u w c → Repeats Y a u w c
   goes a u w c (this (both y r)) = go y r
@@ -74,15 +74,15 @@ module _ {A : Type 0} (d d' : ℕ) (K : Kind → Bool) (step step' : A → Word 
   applied true x y i = refl
   applied false x y i = refl
 
-  turn_is : (g : A → Word → Parser A) (h : ℕ → A → Word → Parser A) → Loop K g h → (n : ℕ) (a : A) (s i : Word) → h (suc n) a s i ≡ (if K (kind i) then (λ i. and_then (g a s i) (λ b. h n b s)) else pure a) i
-  turn_is g h lo n a s i = lo.turn n a s i ∙ applied (K (kind i)) (λ i. and_then (g a s i) (λ b. h n b s)) (pure a) i
+  turn_is : (g : A → Word → Parser A) (h : ℕ → A → Word → Parser A) → Loop K g h → (n : ℕ) (a : A) (s i : Word) → h (suc n) a s i ≡ (if K (terminal i) then (λ i. and_then (g a s i) (λ b. h n b s)) else pure a) i
+  turn_is g h lo n a s i = lo.turn n a s i ∙ applied (K (terminal i)) (λ i. and_then (g a s i) (λ b. h n b s)) (pure a) i
 
   at_turn : (n m : ℕ) → suc n ≤ d → suc m ≤ d' → (a : A) → ((b : A) → Law n m (Repeats Y b) (T ++ S) S (loop n b) (loop' m b)) → Law (suc n) (suc m) (Repeats Y a) (T ++ S) S (loop (suc n) a) (loop' (suc m) a)
   at_turn n m ln lm a again =
       like (turn_is step loop l n a) (turn_is step' loop' l' m a)
       (shaped (goes a) (comes a) (either_law K (then_less (some a) (fewer_law ln lm (f a)) again sub) (pure_law a) yes_there not_there))
 
-  same_read : {n m : ℕ} {R : Word → Word → A → Type 0} {V W : List Kind} {P P' Q' : Word → Parser A} → Law n m R V W P P' → Law n 0 R V W P Q'
+  same_read : {n m : ℕ} {R : Word → Word → A → Type 0} {V W : List Terminal} {P P' Q' : Word → Parser A} → Law n m R V W P P' → Law n 0 R V W P Q'
   same_read h = record { reads = h.reads; takes = h.takes; alike = none_right; ends = h.ends; heads = h.heads }
 
   at_last : (n : ℕ) → suc n ≤ d → 0 ≤ d' → (a : A) → ((b : A) → Law n 0 (Repeats Y b) (T ++ S) S (loop n b) (loop' 0 b)) → Law (suc n) 0 (Repeats Y a) (T ++ S) S (loop (suc n) a) (loop' 0 a)
@@ -113,16 +113,16 @@ left_more {B = B} {Y = Y} {w = w} {b = c} (both {x} {y} h r) z = subst (λ q. Le
 
 -- ---- lists with a separator
 
-pub data Further {A : Type 0} (sep : Kind) (X : Word → A → Type 0) (found : List A) (u : Word) : Word → List A → Type 0 where
-  further : (t : Terminal) {w : Word} {x : A} → t.kind ≡ sep → X w x → Further sep X found u (t ∷ w) (found ++ x ∷ [])
+pub data Further {A : Type 0} (sep : Terminal) (X : Word → A → Type 0) (found : List A) (u : Word) : Word → List A → Type 0 where
+  further : (t : Lexeme) {w : Word} {x : A} → t.terminal ≡ sep → X w x → Further sep X found u (t ∷ w) (found ++ x ∷ [])
 
-abbrev pub Row : {A : Type 0} → Kind → (Word → A → Type 0) → List A → Word → Word → List A → Type 0
+abbrev pub Row : {A : Type 0} → Terminal → (Word → A → Type 0) → List A → Word → Word → List A → Type 0
 Row sep X found = Then (λ u. X) (λ x. Repeats (Further sep X) (found ++ x ∷ []))
 
-pub row_one : {A : Type 0} {sep : Kind} {X : Word → A → Type 0} (found : List A) (w : Word) (x : A) → X w x → Row sep X found [] w (found ++ x ∷ [])
+pub row_one : {A : Type 0} {sep : Terminal} {X : Word → A → Type 0} (found : List A) (w : Word) (x : A) → X w x → Row sep X found [] w (found ++ x ∷ [])
 row_one {sep = sep} {X = X} found w x b = subst (λ z. Row sep X found [] z (found ++ x ∷ [])) (append-nil w) (both b stop)
 
-pub row_more : {A : Type 0} {sep : Kind} {X : Word → A → Type 0} (found : List A) {v w : Word} {xs : List A} {x : A} → Row sep X found [] v xs → (t : Terminal) → t.kind ≡ sep → X w x
+pub row_more : {A : Type 0} {sep : Terminal} {X : Word → A → Type 0} (found : List A) {v w : Word} {xs : List A} {x : A} → Row sep X found [] v xs → (t : Lexeme) → t.terminal ≡ sep → X w x
     → Row sep X found [] (v ++ t ∷ w) (xs ++ x ∷ [])
 row_more {sep = sep} {X = X} found {w = w} {xs = xs} {x = x} (both {x = q} {y = y} h r) t e b =
     subst (λ z. Row sep X found [] z (xs ++ x ∷ [])) (sym (append_assoc q y (t ∷ w))) (both h (snoc r (further t e b)))
@@ -131,8 +131,8 @@ row_more {sep = sep} {X = X} found {w = w} {xs = xs} {x = x} (both {x = q} {y = 
 abbrev pub Behind : {A : Type 0} → (Word → List A → Type 0) → List A → Word → List A → Type 0
 Behind {A} G found w all = (xs : List A) × (all ≡ found ++ xs) × G w xs
 
-module _ {A : Type 0} (sep : Kind) (X : Word → A → Type 0) (G : Word → List A → Type 0) (one : (w : Word) (x : A) → X w x → G w (x ∷ []))
-    (more : (v w : Word) (t : Terminal) (xs : List A) (x : A) → G v xs → t.kind ≡ sep → X w x → G (v ++ t ∷ w) (xs ++ x ∷ [])) (found : List A) where
+module _ {A : Type 0} (sep : Terminal) (X : Word → A → Type 0) (G : Word → List A → Type 0) (one : (w : Word) (x : A) → X w x → G w (x ∷ []))
+    (more : (v w : Word) (t : Lexeme) (xs : List A) (x : A) → G v xs → t.terminal ≡ sep → X w x → G (v ++ t ∷ w) (xs ++ x ∷ [])) (found : List A) where
   further_behind : (v w : Word) (xs bs : List A) → Behind G found v xs → Further sep X xs v w bs → Behind G found (v ++ w) bs
   further_behind v _ xs _ h (further t {w} {x} e b) =
       (h.0 ++ x ∷ [], ap (λ z. z ++ x ∷ []) h.1 ∙ append_assoc found h.0 (x ∷ []), more v w t h.0 x h.2 e b)
@@ -140,39 +140,39 @@ module _ {A : Type 0} (sep : Kind) (X : Word → A → Type 0) (G : Word → Lis
   pub row_behind : (w : Word) (all : List A) → Row sep X found [] w all → Behind G found w all
   row_behind w all (both {x = v} {a = x} h r) = fold (Behind G found) further_behind (x ∷ [], refl, one v x h) r
 
-pub row_is : {A : Type 0} {sep : Kind} {X : Word → A → Type 0} {G : Word → List A → Type 0} (found : List A) → ((w : Word) (xs : List A) → G w xs → Row sep X found [] w (found ++ xs))
+pub row_is : {A : Type 0} {sep : Terminal} {X : Word → A → Type 0} {G : Word → List A → Type 0} (found : List A) → ((w : Word) (xs : List A) → G w xs → Row sep X found [] w (found ++ xs))
     → (w : Word) (all : List A) → Behind G found w all → Row sep X found [] w all
 row_is {sep = sep} {X = X} found f w all h = subst (Row sep X found [] w) (sym h.1) (f w h.0 h.2)
 
-then_assoc : {A B C : Type 0} (r : Outcome A) (f : A → Parser B) (g : B → Parser C) → and_then (and_then r f) g ≡ and_then r (λ a i. and_then (f a i) g)
+pub then_assoc : {A B C : Type 0} (r : Outcome A) (f : A → Parser B) (g : B → Parser C) → and_then (and_then r f) g ≡ and_then r (λ a i. and_then (f a i) g)
 then_assoc (Ok p) f g = refl
 then_assoc (Err e) f g = refl
 
-abbrev pub list_step : {A : Type 0} → Kind → Parser A → List A → Word → Parser (List A)
+abbrev pub list_step : {A : Type 0} → Terminal → Parser A → List A → Word → Parser (List A)
 list_step sep p found s i = and_then (expect sep i) (λ _ i. and_then (p i) (λ x. pure (found ++ x ∷ [])))
 
 abbrev wanted : Bool → Word → Outcome (Unit {0})
 wanted b i = if b then Ok (tt, next i) else Err i
 
-list_loop : {A : Type 0} (sep : Kind) (p : Parser A) → Loop (λ kd. same_kind kd sep) (list_step sep p) (λ n found s. list_from sep p n found)
+list_loop : {A : Type 0} (sep : Terminal) (p : Parser A) → Loop (λ kd. same_terminal kd sep) (list_step sep p) (λ n found s. list_from sep p n found)
 unfolding list_from expect sees after
-list_loop {A} sep p = record { at_end = λ a s i. refl; turn = λ n a s i. turn n a s i (same_kind (kind i) sep) }
+list_loop {A} sep p = record { at_end = λ a s i. refl; turn = λ n a s i. turn n a s i (same_terminal (terminal i) sep) }
   where
     turn : (n : ℕ) (found : List A) (s i : Word) (b : Bool) → (if b then (λ i. and_then (p i) (λ x. list_from sep p n (found ++ x ∷ []))) else pure found) (if b then next i else i)
         ≡ (if b then and_then (and_then (wanted b i) (λ _ i. and_then (p i) (λ x. pure (found ++ x ∷ [])))) (λ b. list_from sep p n b) else pure found i)
     turn n found s i true = sym (then_assoc (p (next i)) (λ x. pure (found ++ x ∷ [])) (λ b. list_from sep p n b))
     turn n found s i false = refl
 
-module _ {A : Type 0} {d d' : ℕ} {X : Word → A → Type 0} {p p' : Parser A} {T U : List Kind} (sep : Kind) (never : only sep k.Nothing ≡ None) (S : List Kind) (item : Law d d' (λ u. X) T U (λ s. p) (λ s. p'))
-    (sub : within (sep ∷ S) U ≡ true) (not_there : each (λ kd. not (same_kind kd sep)) S ≡ true) where
+module _ {A : Type 0} {d d' : ℕ} {X : Word → A → Type 0} {p p' : Parser A} {T U : List Terminal} (sep : Terminal) (never : only sep the.Nothing ≡ None) (S : List Terminal) (item : Law d d' (λ u. X) T U (λ s. p) (λ s. p'))
+    (sub : within (sep ∷ S) U ≡ true) (not_there : each (λ kd. not (same_terminal kd sep)) S ≡ true) where
   step_goes : (found : List A) (u w : Word) (xs : List A) → Then (One sep) (λ _. Then (λ u. X) (λ x. Is (found ++ x ∷ []))) u w xs → Further sep X found u w xs
   step_goes found u w xs (both (a_token t {a = a} e) (both {x = v} {a = x} h i)) =
       is_then (λ y b. Further sep X found u (t ∷ (v ++ y)) b) i
-      (subst (λ z. Further sep X found u z (found ++ x ∷ [])) (sym (ap (λ z. t ∷ z) (append-nil v))) (further t (only_is sep t.kind a e) h))
+      (subst (λ z. Further sep X found u z (found ++ x ∷ [])) (sym (ap (λ z. t ∷ z) (append-nil v))) (further t (only_is sep t.terminal a e) h))
 
   step_comes : (found : List A) (u w : Word) (xs : List A) → Further sep X found u w xs → Then (One sep) (λ _. Then (λ u. X) (λ x. Is (found ++ x ∷ []))) u w xs
   step_comes found u _ _ (further t {w} {x} e h) =
-      subst (λ z. Then (One sep) (λ _. Then (λ u. X) (λ x. Is (found ++ x ∷ []))) u z (found ++ x ∷ [])) (ap (λ z. t ∷ z) (append-nil w)) (both (a_token t (is_only sep t.kind e)) (both h is))
+      subst (λ z. Then (One sep) (λ _. Then (λ u. X) (λ x. Is (found ++ x ∷ []))) u z (found ++ x ∷ [])) (ap (λ z. t ∷ z) (append-nil w)) (both (a_token t (is_only sep t.terminal e)) (both h is))
 
   step_law : (found : List A) → Law d d' (Further sep X found) (sep ∷ []) (sep ∷ S) (list_step sep p found) (list_step sep p' found)
   step_law found = shaped (step_goes found) (step_comes found) (word_then sep never (then_law {U = U} item (λ x. pure_law {S = sep ∷ S} (found ++ x ∷ [])) sub))
@@ -180,12 +180,12 @@ module _ {A : Type 0} {d d' : ℕ} {X : Word → A → Type 0} {p p' : Parser A}
   step_some : (found : List A) (u w : Word) (xs : List A) → Further sep X found u w xs → 0 < length w
   step_some found u _ _ (further t e h) = omega arith
 
-  seen : each (λ kd. same_kind kd sep) (sep ∷ []) ≡ true
+  seen : each (λ kd. same_terminal kd sep) (sep ∷ []) ≡ true
   seen = ap (λ b. if b then true else false) (is_same sep sep refl)
 
   pub from_law : (n m : ℕ) → n ≤ d → m ≤ d' → (found : List A) → Law n m (Repeats (Further sep X) found) (sep ∷ S) S (λ s. list_from sep p n found) (λ s. list_from sep p' m found)
   from_law n m ln lm found =
-      repeat_law d d' (λ kd. same_kind kd sep) (list_step sep p) (list_step sep p') (λ n found s. list_from sep p n found) (λ n found s. list_from sep p' n found) (Further sep X) (sep ∷ []) S (sep ∷ S)
+      repeat_law d d' (λ kd. same_terminal kd sep) (list_step sep p) (list_step sep p') (λ n found s. list_from sep p n found) (λ n found s. list_from sep p' n found) (Further sep X) (sep ∷ []) S (sep ∷ S)
       (list_loop sep p) (list_loop sep p') step_some step_law (within_self (sep ∷ S)) seen not_there n m ln lm found
 
   pub list_law : (found : List A) → Law d d' (λ u. Row sep X found []) T S (λ s. list sep p d found) (λ s. list sep p' d' found)
@@ -194,47 +194,47 @@ module _ {A : Type 0} {d d' : ℕ} {X : Word → A → Type 0} {p p' : Parser A}
 
 -- ---- operators that group to the left
 
-abbrev pub operator_of : (Kind → Option Op) → Terminal → Option Op
-operator_of operator t = operator t.kind
+abbrev pub operator_of : (Terminal → Option Op) → Lexeme → Option Op
+operator_of operator t = operator t.terminal
 
 abbrev pub operate_by : Option Op → Parser Op
 operate_by (Some o) i = Ok (o, next i)
 operate_by None i = Err i
 
-abbrev pub operate : (Kind → Option Op) → Parser Op
-operate operator i = operate_by (operator (kind i)) i
+abbrev pub operate : (Terminal → Option Op) → Parser Op
+operate operator i = operate_by (operator (terminal i)) i
 
-operate_reader : (operator : Kind → Option Op) → operator k.Nothing ≡ None → Reader (operator_of operator) (operate operator)
-operate_reader operator never = record { nil = ap (λ o. operate_by o []) never; cons = λ t ts. cons t ts (operator t.kind) }
+operate_reader : (operator : Terminal → Option Op) → operator the.Nothing ≡ None → Reader (operator_of operator) (operate operator)
+operate_reader operator never = record { nil = ap (λ o. operate_by o []) never; cons = λ t ts. cons t ts (operator t.terminal) }
   where
-    cons : (t : Terminal) (ts : Word) (o : Option Op) → operate_by o (t ∷ ts) ≡ token_by o (t ∷ ts) ts
+    cons : (t : Lexeme) (ts : Word) (o : Option Op) → operate_by o (t ∷ ts) ≡ token_by o (t ∷ ts) ts
     cons t ts (Some o) = refl
     cons t ts None = refl
 
-pub data Operated (operator : Kind → Option Op) (Y : Word → Expr → Type 0) (left : Expr) (u : Word) : Word → Expr → Type 0 where
-  operated : (t : Terminal) {o : Op} {w : Word} {r e : Expr} → operator t.kind ≡ Some o → Y w r → e ≡ tree (node.Binary o left r) (u ++ t ∷ w) → Operated operator Y left u (t ∷ w) e
+pub data Operated (operator : Terminal → Option Op) (Y : Word → Expr → Type 0) (left : Expr) (u : Word) : Word → Expr → Type 0 where
+  operated : (t : Lexeme) {o : Op} {w : Word} {r e : Expr} → operator t.terminal ≡ Some o → Y w r → e ≡ tree (node.Binary o left r) (u ++ t ∷ w) → Operated operator Y left u (t ∷ w) e
 
-abbrev pub group_step : (Kind → Option Op) → Parser Expr → Expr → Word → Parser Expr
+abbrev pub group_step : (Terminal → Option Op) → Parser Expr → Expr → Word → Parser Expr
 group_step operator p left s i = and_then (operate operator i) (λ o i. and_then (p i) (λ r. made (tree (node.Binary o left r)) s))
 
 abbrev pub is_operator : Option Op → Bool
 is_operator None = false
 is_operator (Some o) = true
 
-group_loop : (operator : Kind → Option Op) (p : Parser Expr) → Loop (λ kd. is_operator (operator kd)) (group_step operator p) (λ n left s. grouped_from operator p n s left)
+group_loop : (operator : Terminal → Option Op) (p : Parser Expr) → Loop (λ kd. is_operator (operator kd)) (group_step operator p) (λ n left s. grouped_from operator p n s left)
 unfolding grouped_from grouped_by
-group_loop operator p = record { at_end = λ a s i. refl; turn = λ n a s i. turn n a s i (operator (kind i)) }
+group_loop operator p = record { at_end = λ a s i. refl; turn = λ n a s i. turn n a s i (operator (terminal i)) }
   where
     turn : (n : ℕ) (left : Expr) (s i : Word) (o : Option Op) → grouped_by operator p (grouped_from operator p n s) s left o i
         ≡ (if is_operator o then and_then (and_then (operate_by o i) (λ o i. and_then (p i) (λ r. made (tree (node.Binary o left r)) s))) (λ b. grouped_from operator p n s b) else pure left i)
     turn n left s i None = refl
     turn n left s i (Some o) = sym (then_assoc (p (next i)) (λ r. made (tree (node.Binary o left r)) s) (λ b. grouped_from operator p n s b))
 
-module _ (operator : Kind → Option Op) (never : operator k.Nothing ≡ None) (v : Kind) (o : Op) (known : operator v ≡ Some o) (O : List Kind) (kinds : (kd : Kind) (p : Op) → operator kd ≡ Some p → member O kd ≡ true) where
-  operate_law : {n m : ℕ} (S : List Kind) → Law n m (Token (operator_of operator)) O S (λ s. operate operator) (λ s. operate operator)
-  operate_law S = token_law (operator_of operator) (operate operator) (operate_reader operator never) (token_of v) o known O (λ t a e. kinds t.kind a e) S
+module _ (operator : Terminal → Option Op) (never : operator the.Nothing ≡ None) (v : Terminal) (o : Op) (known : operator v ≡ Some o) (O : List Terminal) (terminals : (kd : Terminal) (p : Op) → operator kd ≡ Some p → member O kd ≡ true) where
+  operate_law : {n m : ℕ} (S : List Terminal) → Law n m (Token (operator_of operator)) O S (λ s. operate operator) (λ s. operate operator)
+  operate_law S = token_law (operator_of operator) (operate operator) (operate_reader operator never) (token_of v) o known O (λ t a e. terminals t.terminal a e) S
 
-  module _ {d d' : ℕ} {Y : Word → Expr → Type 0} {p p' : Parser Expr} {T : List Kind} (U S : List Kind) (operand : Law d d' (λ u. Y) T U (λ s. p) (λ s. p'))
+  module _ {d d' : ℕ} {Y : Word → Expr → Type 0} {p p' : Parser Expr} {T : List Terminal} (U S : List Terminal) (operand : Law d d' (λ u. Y) T U (λ s. p) (λ s. p'))
       (sub : within (O ++ S) U ≡ true) (yes_there : each (λ kd. is_operator (operator kd)) O ≡ true) (not_there : each (λ kd. not (is_operator (operator kd))) S ≡ true) where
     group_goes : (left : Expr) (u w : Word) (e : Expr) → Then (Token (operator_of operator)) (λ o. Then (λ u. Y) (λ r. Made (tree (node.Binary o left r)))) u w e → Operated operator Y left u w e
     group_goes left u w e (both (a_token t {a = o} h) (both {x = x} {a = r} y (is_made m))) =
@@ -259,6 +259,6 @@ module _ (operator : Kind → Option Op) (never : operator k.Nothing ≡ None) (
         repeat_law d d' (λ kd. is_operator (operator kd)) (group_step operator p) (group_step operator p') (λ n left s. grouped_from operator p n s left) (λ n left s. grouped_from operator p' n s left) (Operated operator Y)
         O S (O ++ S) (group_loop operator p) (group_loop operator p') group_some group_law (within_self (O ++ S)) yes_there not_there n m ln lm left
 
-pub row_in : {A : Type 0} (sep : Kind) (X : Word → A → Type 0) (G : Word → List A → Type 0) → ((w : Word) (x : A) → X w x → G w (x ∷ []))
-    → ((v w : Word) (t : Terminal) (xs : List A) (x : A) → G v xs → t.kind ≡ sep → X w x → G (v ++ t ∷ w) (xs ++ x ∷ [])) → (w : Word) (all : List A) → Row sep X [] [] w all → G w all
+pub row_in : {A : Type 0} (sep : Terminal) (X : Word → A → Type 0) (G : Word → List A → Type 0) → ((w : Word) (x : A) → X w x → G w (x ∷ []))
+    → ((v w : Word) (t : Lexeme) (xs : List A) (x : A) → G v xs → t.terminal ≡ sep → X w x → G (v ++ t ∷ w) (xs ++ x ∷ [])) → (w : Word) (all : List A) → Row sep X [] [] w all → G w all
 row_in sep X G one more w all r = let b = row_behind sep X G one more [] w all r in subst (G w) (sym b.1) b.2

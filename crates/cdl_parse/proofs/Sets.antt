@@ -1,76 +1,76 @@
--- The kinds with which words begin, and those that may follow them.
+-- The terminals with which words begin, and those that may follow them.
 use Rattle.std.proofs.Common.{List, [], ◌∷◌, ◌++◌}
-use Rattle.cdl_tree.specs.declared.kind.Kind.{Kind}
-use Rattle.cdl_tree.specs.declared.kind.Kind.TheVariants as k
+use Rattle.cdl_tree.specs.declared.terminal.Terminal.{Terminal}
+use Rattle.cdl_tree.specs.declared.terminal.Terminal.TheVariants as the
 
-abbrev pub prims : List Kind
-prims = k.Integer ∷ k.Real ∷ k.Str ∷ k.True ∷ k.False ∷ k.Open ∷ k.OpenBrace ∷ k.Identifier ∷ []
+abbrev pub prims : List Terminal
+prims = the.Integer ∷ the.Real ∷ the.Str ∷ the.True ∷ the.False ∷ the.Open ∷ the.OpenBrace ∷ the.Identifier ∷ []
 
-abbrev pub sums : List Kind
-sums = k.Plus ∷ k.Minus ∷ prims
+abbrev pub sums : List Terminal
+sums = the.Plus ∷ the.Minus ∷ prims
 
-abbrev pub lnots : List Kind
-lnots = k.Not ∷ sums
+abbrev pub lnots : List Terminal
+lnots = the.Not ∷ sums
 
-abbrev pub exprs : List Kind
-exprs = k.If ∷ lnots
+abbrev pub exprs : List Terminal
+exprs = the.If ∷ lnots
 
-abbrev pub after_expr : List Kind
+abbrev pub after_expr : List Terminal
 after_expr =
-    k.Then ∷ k.ElseIf ∷ k.Else ∷ k.Close ∷ k.Comma ∷ k.CloseBrace ∷ k.CloseBracket ∷ k.Colon ∷ k.Semicolon ∷ k.If ∷ k.Str ∷ k.Annotation ∷ []
+    the.Then ∷ the.ElseIf ∷ the.Else ∷ the.Close ∷ the.Comma ∷ the.CloseBrace ∷ the.CloseBracket ∷ the.Colon ∷ the.Loop ∷ the.Semicolon ∷ the.If ∷ the.Str ∷ the.Annotation ∷ []
 
-abbrev pub after_land : List Kind
-after_land = k.Or ∷ after_expr
+abbrev pub after_land : List Terminal
+after_land = the.Or ∷ after_expr
 
-abbrev pub after_lnot : List Kind
-after_lnot = k.And ∷ after_land
+abbrev pub after_lnot : List Terminal
+after_lnot = the.And ∷ after_land
 
-abbrev pub comparisons : List Kind
-comparisons = k.Less ∷ k.LessEqual ∷ k.Greater ∷ k.GreaterEqual ∷ k.EqualEqual ∷ k.NotEqual ∷ []
+abbrev pub comparisons : List Terminal
+comparisons = the.Less ∷ the.LessEqual ∷ the.Greater ∷ the.GreaterEqual ∷ the.EqualEqual ∷ the.NotEqual ∷ []
 
-abbrev pub after_sum : List Kind
+abbrev pub after_sum : List Terminal
 after_sum = comparisons ++ after_lnot
 
-abbrev pub after_term : List Kind
-after_term = k.Plus ∷ k.Minus ∷ after_sum
+abbrev pub after_term : List Terminal
+after_term = the.Plus ∷ the.Minus ∷ after_sum
 
-abbrev pub after_prim : List Kind
-after_prim = k.Star ∷ k.Slash ∷ after_term
+abbrev pub after_prim : List Terminal
+after_prim = the.Star ∷ the.Slash ∷ after_term
 
 -- what closes a list of expressions
-abbrev pub closers : List Kind
-closers = k.Close ∷ k.CloseBrace ∷ k.CloseBracket ∷ []
+abbrev pub closers : List Terminal
+closers = the.Close ∷ the.CloseBrace ∷ the.CloseBracket ∷ []
 
-abbrev pub after_name : List Kind
-after_name = k.Identifier ∷ k.Semicolon ∷ []
+abbrev pub after_name : List Terminal
+after_name = the.Identifier ∷ the.Semicolon ∷ []
 
-abbrev pub after_tail : List Kind
-after_tail = k.Comma ∷ k.Semicolon ∷ k.Close ∷ []
+abbrev pub after_tail : List Terminal
+after_tail = the.Comma ∷ the.Semicolon ∷ the.Close ∷ []
 
-abbrev pub after_condition : List Kind
-after_condition = k.Str ∷ k.Annotation ∷ after_tail
+abbrev pub after_condition : List Terminal
+after_condition = the.Str ∷ the.Annotation ∷ after_tail
 
-abbrev pub after_value : List Kind
-after_value = k.If ∷ after_condition
+abbrev pub after_value : List Terminal
+after_value = the.If ∷ after_condition
 
-abbrev pub after_args : List Kind
-after_args = k.Equals ∷ after_value
+abbrev pub after_args : List Terminal
+after_args = the.Equals ∷ after_value
 
-abbrev pub after_dims : List Kind
-after_dims = k.Open ∷ after_args
+abbrev pub after_dims : List Terminal
+after_dims = the.Open ∷ after_args
 
-abbrev pub after_arg : List Kind
-after_arg = k.Comma ∷ k.Close ∷ []
+abbrev pub after_arg : List Terminal
+after_arg = the.Comma ∷ the.Close ∷ []
 
-abbrev pub plains : List Kind
+abbrev pub plains : List Terminal
 plains =
-    k.Identifier ∷ k.Integer ∷ k.Real ∷ k.Str ∷ k.Within ∷ k.Block ∷ k.Package ∷ k.Type ∷ k.Enumeration ∷ k.Public ∷ k.Protected ∷ k.Equation
-    ∷ k.End ∷ k.Annotation ∷ k.Final ∷ k.Parameter ∷ k.Constant ∷ k.Each ∷ k.Connect ∷ k.If ∷ k.Then ∷ k.ElseIf ∷ k.Else ∷ k.Or ∷ k.And ∷ k.Not
-    ∷ k.True ∷ k.False ∷ k.Semicolon ∷ k.Comma ∷ k.Period ∷ k.Colon ∷ k.Equals ∷ k.Plus ∷ k.Minus ∷ k.Star ∷ k.Slash ∷ k.Less ∷ k.LessEqual
-    ∷ k.Greater ∷ k.GreaterEqual ∷ k.EqualEqual ∷ k.NotEqual ∷ k.Other ∷ []
+    the.Identifier ∷ the.Integer ∷ the.Real ∷ the.Str ∷ the.Within ∷ the.Block ∷ the.Package ∷ the.Type ∷ the.Enumeration ∷ the.Public ∷ the.Protected ∷ the.Equation
+    ∷ the.End ∷ the.Annotation ∷ the.Final ∷ the.Parameter ∷ the.Constant ∷ the.Each ∷ the.Connect ∷ the.For ∷ the.In ∷ the.Loop ∷ the.If ∷ the.Then ∷ the.ElseIf ∷ the.Else ∷ the.Or ∷ the.And ∷ the.Not
+    ∷ the.True ∷ the.False ∷ the.Semicolon ∷ the.Comma ∷ the.Period ∷ the.Colon ∷ the.Equals ∷ the.Plus ∷ the.Minus ∷ the.Star ∷ the.Slash ∷ the.Less ∷ the.LessEqual
+    ∷ the.Greater ∷ the.GreaterEqual ∷ the.EqualEqual ∷ the.NotEqual ∷ the.Other ∷ []
 
-abbrev pub openers : List Kind
-openers = k.Open ∷ k.OpenBracket ∷ k.OpenBrace ∷ []
+abbrev pub openers : List Terminal
+openers = the.Open ∷ the.OpenBracket ∷ the.OpenBrace ∷ []
 
-abbrev pub balanceds : List Kind
+abbrev pub balanceds : List Terminal
 balanceds = openers ++ plains

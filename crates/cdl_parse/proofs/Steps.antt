@@ -3,9 +3,9 @@
 use Rattle.std.proofs.Common.{◌≡◌, ℕ, ◌-◌, ◌≤◌, true, [], ◌∷◌, ◌++◌, length, take, Ok, Err, refl, sym, ap, ◌∙◌, subst, arith, append_assoc, length-append, add-sub_cancel}
 use Rattle.std.proofs.Math.Seq.{take-append_seam}
 use denote.Enum.Bare.{same_true}
-use Rattle.cdl_tree.specs.contracts.kind.Kind.{the_type}
-use Rattle.cdl_tree.specs.declared.kind.Kind.{Kind}
-use Rattle.cdl_tree.specs.Words.{Terminal, Word, same_kind}
+use Rattle.cdl_tree.specs.contracts.terminal.Terminal.{the_type}
+use Rattle.cdl_tree.specs.declared.terminal.Terminal.{Terminal}
+use Rattle.cdl_tree.specs.Words.{Lexeme, Word, same_terminal}
 use Rattle.cdl_parse.specs.Reading.{Outcome, Parser, and_then, pure, since, made}
 
 -- read: a word of R. Stuck: the front of a word of R.
@@ -38,8 +38,8 @@ pub data Is {A : Type 0} (a : A) (u : Word) : Word → A → Type 0 where
 pub data Made {A : Type 0} (f : Word → A) (u : Word) : Word → A → Type 0 where
   is_made : {a : A} → a ≡ f u → Made f u [] a
 
-pub data First {B : Type 0} (K : Terminal → Type 0) (Q : Terminal → Word → Word → B → Type 0) (u : Word) : Word → B → Type 0 where
-  first : (t : Terminal) {y : Word} {b : B} → K t → Q t (u ++ t ∷ []) y b → First K Q u (t ∷ y) b
+pub data First {B : Type 0} (K : Lexeme → Type 0) (Q : Lexeme → Word → Word → B → Type 0) (u : Word) : Word → B → Type 0 where
+  first : (t : Lexeme) {y : Word} {b : B} → K t → Q t (u ++ t ∷ []) y b → First K Q u (t ∷ y) b
 
 -- ---- weaker, and one after another
 
@@ -107,11 +107,11 @@ made_reads f = record { reads = λ u i le. record { shape = ([], refl, is_made (
 pub made_ends : {A : Type 0} (f : Word → A) → Ends (Made f)
 made_ends f = record { ends = λ u. ([], f u, is_made refl) }
 
-pub seam : (u : Word) (t : Terminal) (ts : Word) → (u ++ t ∷ []) ++ ts ≡ u ++ t ∷ ts
+pub seam : (u : Word) (t : Lexeme) (ts : Word) → (u ++ t ∷ []) ++ ts ≡ u ++ t ∷ ts
 seam u t ts = append_assoc u (t ∷ []) ts
 
 -- a token in front, of which K is known
-pub behind : {B : Type 0} {n : ℕ} {K : Terminal → Type 0} (Q : Terminal → Word → Word → B → Type 0) {F : Word → Parser B} {u : Word} (t : Terminal) {ts : Word}
+pub behind : {B : Type 0} {n : ℕ} {K : Lexeme → Type 0} (Q : Lexeme → Word → Word → B → Type 0) {F : Word → Parser B} {u : Word} (t : Lexeme) {ts : Word}
     → K t → Reads n (Q t) F → length ts ≤ n → Meets (First K Q) u (t ∷ ts) (F (u ++ t ∷ ts) ts)
 behind {B} {n} {K} Q {F} {u} t {ts} e h le = go (F (u ++ t ∷ ts) ts) (subst (λ z. Meets (Q t) (u ++ t ∷ []) ts (F z ts)) (seam u t ts) (h.reads (u ++ t ∷ []) ts le)).shape
   where
@@ -119,9 +119,9 @@ behind {B} {n} {K} Q {F} {u} t {ts} e h le = go (F (u ++ t ∷ ts) ts) (subst (�
     go (Ok p) m = record { shape = (t ∷ m.0, ap (λ z. t ∷ z) m.1, first t e m.2) }
     go (Err j) m = record { shape = (t ∷ m.0, m.1, m.2, ap (λ z. t ∷ z) m.3, first t e m.4) }
 
-pub is_kind : (a b : Kind) → same_kind a b ≡ true → a ≡ b
-unfolding same_kind
-is_kind a b e = same_true the_type tt a b e
+pub is_terminal : (a b : Terminal) → same_terminal a b ≡ true → a ≡ b
+unfolding same_terminal
+is_terminal a b e = same_true the_type tt a b e
 
 -- a rule that refuses whatever comes, where some word of R is known
 pub stuck_here : {A : Type 0} {R : Word → Word → A → Type 0} {u i : Word} (v : Word) (a : A) → R u v a → Meets R u i (Err i)

@@ -1,7 +1,7 @@
 -- The parser of texts, annotations, arguments, declarations and connect statements, as a function.
 use Rattle.std.specs.Prelude.{ℕ, zero, suc, Bool, true, false, if◌then◌else◌, List, [], ◌∷◌, ◌++◌, Option, Some, None, Ok, Err}
-use Rattle.cdl_tree.specs.declared.kind.Kind.{Kind}
-use Rattle.cdl_tree.specs.declared.kind.Kind.TheVariants as k
+use Rattle.cdl_tree.specs.declared.terminal.Terminal.{Terminal}
+use Rattle.cdl_tree.specs.declared.terminal.Terminal.TheVariants as the
 use Rattle.cdl_tree.specs.declared.expr.Expr.{Expr}
 use Rattle.cdl_tree.specs.declared.class.Prefix.{Prefix}
 use Rattle.cdl_tree.specs.declared.class.Prefix.TheVariants as prefix
@@ -15,7 +15,7 @@ use Rattle.cdl_tree.specs.declared.class.Sub.TheVariants as sub
 use Rattle.cdl_tree.specs.declared.class.Connect.{Connect}
 use Rattle.cdl_tree.specs.Grammar.{partner, is_plain, the_head}
 use Rattle.cdl_tree.specs.Trees.{the_modifier, listed, Head, the_item, the_part, the_ref, the_connect}
-use Rattle.cdl_parse.specs.Reading.{Parser, ◌>>=◌, ◌>>◌, pure, refuse, kind, next, peek, here, skip, ahead, eat, expect, ident, made, list}
+use Rattle.cdl_parse.specs.Reading.{Parser, ◌>>=◌, ◌>>◌, pure, refuse, terminal, next, peek, here, skip, ahead, eat, expect, ident, made, list}
 use Rattle.cdl_parse.specs.Expressions.{name, expr}
 
 -- ---- texts and annotations
@@ -23,28 +23,28 @@ use Rattle.cdl_parse.specs.Expressions.{name, expr}
 unfoldable pub strings_from : ℕ → Parser (Unit {0})
 strings_from zero = pure tt
 strings_from (suc turns) = do
-  more ← eat k.Plus
-  if more then (do expect k.Str; strings_from turns) else pure tt
+  more ← eat the.Plus
+  if more then (do expect the.Str; strings_from turns) else pure tt
 
 unfoldable pub text_of : ℕ → Parser (Unit {0})
 text_of most = do
-  some ← eat k.Str
+  some ← eat the.Str
   if some then strings_from most else pure tt
 
 -- no closing bracket and not the end
-abbrev pub begins_balanced : Kind → Bool
-begins_balanced k.Close = false
-begins_balanced k.CloseBracket = false
-begins_balanced k.CloseBrace = false
-begins_balanced k.Nothing = false
+abbrev pub begins_balanced : Terminal → Bool
+begins_balanced the.Close = false
+begins_balanced the.CloseBracket = false
+begins_balanced the.CloseBrace = false
+begins_balanced the.Nothing = false
 begins_balanced _ = true
 
 -- a token that is no bracket
 unfoldable pub plain : Parser (Unit {0})
-plain = λ i. if is_plain (kind i) then Ok (tt, next i) else Err i
+plain = λ i. if is_plain (terminal i) then Ok (tt, next i) else Err i
 
 module _ (inner : Parser (Unit {0})) where
-  abbrev pub balanced_by : Option Kind → Parser (Unit {0})
+  abbrev pub balanced_by : Option Terminal → Parser (Unit {0})
   balanced_by (Some closer) = do
     skip
     inner
@@ -53,13 +53,13 @@ module _ (inner : Parser (Unit {0})) where
 
   -- a token, or brackets and what they enclose
   unfoldable pub balanced_part : Parser (Unit {0})
-  balanced_part = peek >>= (λ kind. balanced_by (partner kind))
+  balanced_part = peek >>= (λ terminal. balanced_by (partner terminal))
 
   unfoldable pub balanced_from : ℕ → Parser (Unit {0})
   balanced_from zero = pure tt
   balanced_from (suc turns) = do
-    kind ← peek
-    if begins_balanced kind then (do balanced_part; balanced_from turns) else pure tt
+    terminal ← peek
+    if begins_balanced terminal then (do balanced_part; balanced_from turns) else pure tt
 
 -- balanced tokens that nest no deeper than the number
 unfoldable pub balanced : ℕ → Parser (Unit {0})
@@ -68,55 +68,55 @@ balanced (suc depth) = balanced_from (balanced depth) (suc depth)
 
 unfoldable pub note : ℕ → Parser (Unit {0})
 note most = do
-  expect k.Annotation
-  expect k.Open
+  expect the.Annotation
+  expect the.Open
   balanced most
-  expect k.Close
+  expect the.Close
 
 unfoldable pub note_clause : ℕ → Parser (Unit {0})
 note_clause most = do
   note most
-  expect k.Semicolon
+  expect the.Semicolon
 
 unfoldable pub tail : ℕ → Parser (Unit {0})
 tail most = do
   text_of most
-  some ← ahead k.Annotation
+  some ← ahead the.Annotation
   if some then note most else pure tt
 
 -- ---- arguments
 
 -- an expression behind a word or a symbol, where it stands
-unfoldable pub optional : Kind → ℕ → Parser (Option Expr)
-optional kind most = do
-  some ← eat kind
+unfoldable pub optional : Terminal → ℕ → Parser (Option Expr)
+optional terminal most = do
+  some ← eat terminal
   if some then (do e ← expr most; pure (Some e)) else pure None
 
 unfoldable pub optional_args : Parser (List Modifier) → Parser (Option (List Modifier))
 optional_args whole = do
-  some ← ahead k.Open
+  some ← ahead the.Open
   if some then (do ms ← whole; pure (Some ms)) else pure None
 
 module _ (depth : ℕ) (whole : Parser (List Modifier)) where
   unfoldable pub arg : Parser Modifier
   arg = do
     start ← here
-    each ← eat k.Each
-    is_final ← eat k.Final
+    each ← eat the.Each
+    is_final ← eat the.Final
     name ← ident
     args ← optional_args whole
-    value ← optional k.Equals depth
+    value ← optional the.Equals depth
     text_of depth
     made (the_modifier each is_final name args value) start
 
   unfoldable pub arg_list : Parser (List Modifier)
-  arg_list = list k.Comma arg depth []
+  arg_list = list the.Comma arg depth []
 
   unfoldable pub arguments : Parser (List Modifier)
   arguments = do
-    expect k.Open
-    empty ← eat k.Close
-    if empty then pure [] else (do ms ← arg_list; expect k.Close; pure ms)
+    expect the.Open
+    empty ← eat the.Close
+    if empty then pure [] else (do ms ← arg_list; expect the.Close; pure ms)
 
 -- arguments that nest no deeper than the number
 unfoldable pub args : ℕ → Parser (List Modifier)
@@ -127,27 +127,22 @@ args (suc depth) = arguments depth (args depth)
 
 unfoldable pub prefix_of : Parser Prefix
 prefix_of = do
-  parameter ← eat k.Parameter
-  if parameter then pure prefix.Parameter else (do constant ← eat k.Constant; if constant then pure prefix.Constant else pure prefix.Plain)
-
-abbrev pub begins_statement : Kind → Bool
-begins_statement k.Connect = true
-begins_statement k.Annotation = true
-begins_statement _ = false
+  parameter ← eat the.Parameter
+  if parameter then pure prefix.Parameter else (do constant ← eat the.Constant; if constant then pure prefix.Constant else pure prefix.Plain)
 
 module _ (most : ℕ) where
   unfoldable pub dim_of : Parser Dim
   dim_of = do
-    any ← eat k.Colon
+    any ← eat the.Colon
     if any then pure dim.Any else (do e ← expr most; pure (dim.Size e))
 
   unfoldable pub dim_list : Parser (List Dim)
-  dim_list = list k.Comma dim_of most []
+  dim_list = list the.Comma dim_of most []
 
   unfoldable pub dims : Parser (List Dim)
   dims = do
-    some ← eat k.OpenBracket
-    if some then (do ds ← dim_list; expect k.CloseBracket; pure ds) else pure []
+    some ← eat the.OpenBracket
+    if some then (do ds ← dim_list; expect the.CloseBracket; pure ds) else pure []
 
   unfoldable pub decl : Head → Parser Item
   decl head = do
@@ -155,50 +150,50 @@ module _ (most : ℕ) where
     name ← ident
     ds ← dims
     ms ← optional_args (args most)
-    value ← optional k.Equals most
-    condition ← optional k.If most
+    value ← optional the.Equals most
+    condition ← optional the.If most
     tail most
     made (the_item head name ds (listed ms) value condition) start
 
   unfoldable pub decls : Head → List Item → Parser (List Item)
-  decls head found = list k.Comma (decl head) most found
+  decls head found = list the.Comma (decl head) most found
 
   -- the items of a clause, behind those that are found
   unfoldable pub clause : List Item → Parser (List Item)
   clause found = do
-    is_final ← eat k.Final
+    is_final ← eat the.Final
     p ← prefix_of
     class ← name most
     xs ← decls (the_head is_final p class) found
-    expect k.Semicolon
+    expect the.Semicolon
     pure xs
 
   unfoldable pub constant : List Item → Parser (List Item)
   constant found = do
-    is_final ← eat k.Final
-    expect k.Constant
+    is_final ← eat the.Final
+    expect the.Constant
     class ← name most
     xs ← decls (the_head is_final prefix.Constant class) found
-    expect k.Semicolon
+    expect the.Semicolon
     pure xs
 
   -- ---- connect statements
 
   unfoldable pub sub_of : Parser Sub
   sub_of = do
-    all ← eat k.Colon
+    all ← eat the.Colon
     if all then pure sub.All else (do
       low ← expr most
-      ranged ← eat k.Colon
+      ranged ← eat the.Colon
       if ranged then (do high ← expr most; pure (sub.Range low high)) else pure (sub.One low))
 
   unfoldable pub sub_list : Parser (List Sub)
-  sub_list = list k.Comma sub_of most []
+  sub_list = list the.Comma sub_of most []
 
   unfoldable pub subs : Parser (List Sub)
   subs = do
-    some ← eat k.OpenBracket
-    if some then (do ss ← sub_list; expect k.CloseBracket; pure ss) else pure []
+    some ← eat the.OpenBracket
+    if some then (do ss ← sub_list; expect the.CloseBracket; pure ss) else pure []
 
   unfoldable pub part : Parser Part
   part = do
@@ -207,33 +202,17 @@ module _ (most : ℕ) where
     pure (the_part name ss)
 
   unfoldable pub reference : Parser (List Part)
-  reference = list k.Period part most []
+  reference = list the.Period part most []
 
   unfoldable pub connect : Parser Connect
   connect = do
     start ← here
-    expect k.Connect
-    expect k.Open
+    expect the.Connect
+    expect the.Open
     left ← reference
-    expect k.Comma
+    expect the.Comma
     right ← reference
-    expect k.Close
+    expect the.Close
     tail most
-    expect k.Semicolon
+    expect the.Semicolon
     made (the_connect (the_ref left) (the_ref right)) start
-
-  unfoldable pub statement : List Connect → Parser (List Connect)
-  statement found = do
-    is_connect ← ahead k.Connect
-    if is_connect then (do c ← connect; pure (found ++ c ∷ [])) else (do note_clause most; pure found)
-
-  unfoldable pub statements_from : ℕ → List Connect → Parser (List Connect)
-  statements_from zero found = pure found
-  statements_from (suc turns) found = do
-    kind ← peek
-    if begins_statement kind then (do more ← statement found; statements_from turns more) else pure found
-
-  unfoldable pub equation_part : Parser (List Connect)
-  equation_part = do
-    some ← eat k.Equation
-    if some then statements_from most [] else pure []

@@ -1,8 +1,8 @@
 -- The parser of names and expressions, as a function. The number bounds how deep expressions nest and how long lists are;
 -- the count of tokens is enough.
 use Rattle.std.specs.Prelude.{ℕ, zero, suc, true, false, if◌then◌else◌, List, [], ◌∷◌, Option, Some, None}
-use Rattle.cdl_tree.specs.declared.kind.Kind.{Kind}
-use Rattle.cdl_tree.specs.declared.kind.Kind.TheVariants as k
+use Rattle.cdl_tree.specs.declared.terminal.Terminal.{Terminal}
+use Rattle.cdl_tree.specs.declared.terminal.Terminal.TheVariants as the
 use Rattle.cdl_tree.specs.declared.name.Ident.{Ident}
 use Rattle.cdl_tree.specs.declared.expr.Op.{Op}
 use Rattle.cdl_tree.specs.declared.expr.Op.TheVariants as op
@@ -14,19 +14,19 @@ use Rattle.cdl_tree.specs.Trees.{the_name, comparison, sign, factor, tree}
 use Rattle.cdl_parse.specs.Reading.{Parser, ◌>>=◌, ◌>>◌, pure, refuse, peek, here, skip, eat, expect, ident, literal, real_of, made, list, list_from}
 
 unfoldable pub name : ℕ → Parser (List Ident)
-name most = list k.Period ident most []
+name most = list the.Period ident most []
 
 -- the operators of the two lowest levels
-abbrev pub disjunction : Kind → Option Op
-disjunction k.Or = Some op.Or
+abbrev pub disjunction : Terminal → Option Op
+disjunction the.Or = Some op.Or
 disjunction _ = None
 
-abbrev pub conjunction : Kind → Option Op
-conjunction k.And = Some op.And
+abbrev pub conjunction : Terminal → Option Op
+conjunction the.And = Some op.And
 conjunction _ = None
 
 -- operators of one level, which group to the left
-module _ (operator : Kind → Option Op) (operand : Parser Expr) where
+module _ (operator : Terminal → Option Op) (operand : Parser Expr) where
   unfoldable pub grouped_by : (Expr → Parser Expr) → Word → Expr → Option Op → Parser Expr
   grouped_by go start left None = pure left
   grouped_by go start left (Some o) = do
@@ -37,69 +37,69 @@ module _ (operator : Kind → Option Op) (operand : Parser Expr) where
 
   unfoldable pub grouped_from : ℕ → Word → Expr → Parser Expr
   grouped_from zero start left = pure left
-  grouped_from (suc turns) start left = peek >>= (λ kind. grouped_by (grouped_from turns start) start left (operator kind))
+  grouped_from (suc turns) start left = peek >>= (λ terminal. grouped_by (grouped_from turns start) start left (operator terminal))
 
 module _ (depth : ℕ) (whole : Parser Expr) where
   unfoldable pub exprs : Parser (List Expr)
-  exprs = list k.Comma whole depth []
+  exprs = list the.Comma whole depth []
 
   -- ---- primaries
 
   unfoldable pub integer : Parser Expr
   integer = do
     start ← here
-    z ← literal k.Integer integer_of
+    z ← literal the.Integer integer_of
     made (tree (node.Integer z)) start
 
   unfoldable pub real : Parser Expr
   real = do
     start ← here
-    q ← literal k.Real real_of
+    q ← literal the.Real real_of
     made (tree (node.Real q)) start
 
   unfoldable pub string : Parser Expr
   string = do
     start ← here
-    s ← literal k.Str string_of
+    s ← literal the.Str string_of
     made (tree (node.Str s)) start
 
   unfoldable pub true_word : Parser Expr
   true_word = do
     start ← here
-    expect k.True
+    expect the.True
     made (tree (node.Boolean true)) start
 
   unfoldable pub false_word : Parser Expr
   false_word = do
     start ← here
-    expect k.False
+    expect the.False
     made (tree (node.Boolean false)) start
 
   unfoldable pub paren : Parser Expr
   paren = do
-    expect k.Open
+    expect the.Open
     e ← whole
-    expect k.Close
+    expect the.Close
     pure e
 
   unfoldable pub array : Parser Expr
   array = do
     start ← here
-    expect k.OpenBrace
+    expect the.OpenBrace
     es ← exprs
-    expect k.CloseBrace
+    expect the.CloseBrace
     made (tree (node.Array es)) start
 
   -- the operands of a call behind its parenthesis, with the one that closes it
   unfoldable pub operands : Parser (List Expr)
   operands = do
-    empty ← eat k.Close
-    if empty then pure [] else (do es ← exprs; expect k.Close; pure es)
+    empty ← eat the.Close
+    if empty then pure [] else (do es ← exprs; expect the.Close; pure es)
 
   unfoldable pub subscripts : Parser (List Expr)
   subscripts = do
-    some ← eat k.OpenBracket
-    if some then (do es ← exprs; expect k.CloseBracket; pure es) else pure []
+    some ← eat the.OpenBracket
+    if some then (do es ← exprs; expect the.CloseBracket; pure es) else pure []
 
   unfoldable pub call : Ident → Word → Parser Expr
   call function start = do
@@ -108,7 +108,7 @@ module _ (depth : ℕ) (whole : Parser Expr) where
 
   unfoldable pub refer : Ident → Word → Parser Expr
   refer first start = do
-    parts ← list_from k.Period ident depth (first ∷ [])
+    parts ← list_from the.Period ident depth (first ∷ [])
     es ← subscripts
     made (tree (node.Refer (the_name parts) es)) start
 
@@ -116,18 +116,18 @@ module _ (depth : ℕ) (whole : Parser Expr) where
   named = do
     start ← here
     first ← ident
-    is_call ← eat k.Open
+    is_call ← eat the.Open
     if is_call then call first start else refer first start
 
-  abbrev pub prim_by : Kind → Parser Expr
-  prim_by k.Integer = integer
-  prim_by k.Real = real
-  prim_by k.Str = string
-  prim_by k.True = true_word
-  prim_by k.False = false_word
-  prim_by k.Open = paren
-  prim_by k.OpenBrace = array
-  prim_by k.Identifier = named
+  abbrev pub prim_by : Terminal → Parser Expr
+  prim_by the.Integer = integer
+  prim_by the.Real = real
+  prim_by the.Str = string
+  prim_by the.True = true_word
+  prim_by the.False = false_word
+  prim_by the.Open = paren
+  prim_by the.OpenBrace = array
+  prim_by the.Identifier = named
   prim_by _ = refuse
 
   unfoldable pub prim : Parser Expr
@@ -151,8 +151,8 @@ module _ (depth : ℕ) (whole : Parser Expr) where
   unfoldable pub signed : Parser Expr
   signed = do
     start ← here
-    kind ← peek
-    signed_by start (sign kind)
+    terminal ← peek
+    signed_by start (sign terminal)
 
   unfoldable pub sum : Parser Expr
   sum = do
@@ -171,13 +171,13 @@ module _ (depth : ℕ) (whole : Parser Expr) where
   rel = do
     start ← here
     left ← sum
-    kind ← peek
-    rel_by start left (comparison kind)
+    terminal ← peek
+    rel_by start left (comparison terminal)
 
   unfoldable pub lnot : Parser Expr
   lnot = do
     start ← here
-    negated ← eat k.Not
+    negated ← eat the.Not
     if negated then (do e ← rel; made (tree (node.Unary op.Not e)) start) else rel
 
   unfoldable pub land : Parser Expr
@@ -198,7 +198,7 @@ module _ (depth : ℕ) (whole : Parser Expr) where
   unfoldable pub choice : Parser Expr → Word → Parser Expr
   choice otherwise start = do
     condition ← whole
-    expect k.Then
+    expect the.Then
     holds ← whole
     fails ← otherwise
     made (tree (node.If condition holds fails)) start
@@ -206,8 +206,8 @@ module _ (depth : ℕ) (whole : Parser Expr) where
   unfoldable pub otherwise_by : Parser Expr → Parser Expr
   otherwise_by go = do
     start ← here
-    again ← eat k.ElseIf
-    if again then choice go start else (do expect k.Else; whole)
+    again ← eat the.ElseIf
+    if again then choice go start else (do expect the.Else; whole)
 
   unfoldable pub otherwise : ℕ → Parser Expr
   otherwise zero = refuse
@@ -216,7 +216,7 @@ module _ (depth : ℕ) (whole : Parser Expr) where
   unfoldable pub conditional : Parser Expr
   conditional = do
     start ← here
-    is_choice ← eat k.If
+    is_choice ← eat the.If
     if is_choice then choice (otherwise depth) start else lor
 
 -- expressions that nest no deeper than the number

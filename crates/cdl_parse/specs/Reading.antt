@@ -3,10 +3,10 @@ use Rattle.std.specs.Prelude.{ℕ, ◌-◌, ℤ, Bool, if◌then◌else◌, List
 use Rattle.cdl_source.specs.declared.place.Span.{Span}
 use Rattle.cdl_decimal.specs.declared.numeral.DecimalError.{DecimalError}
 use Rattle.cdl_decimal.specs.Split.{parse_of}
-use Rattle.cdl_tree.specs.declared.kind.Kind.{Kind}
-use Rattle.cdl_tree.specs.declared.kind.Kind.TheVariants as k
+use Rattle.cdl_tree.specs.declared.terminal.Terminal.{Terminal}
+use Rattle.cdl_tree.specs.declared.terminal.Terminal.TheVariants as the
 use Rattle.cdl_tree.specs.declared.name.Ident.{Ident}
-use Rattle.cdl_tree.specs.Words.{Word, same_kind}
+use Rattle.cdl_tree.specs.Words.{Word, same_terminal}
 
 abbrev pub Outcome : Type 0 → Type 0
 Outcome A = Result (A × Word) Word
@@ -32,10 +32,10 @@ pure a = λ i. Ok (a, i)
 abbrev pub refuse : {A : Type 0} → Parser A
 refuse = λ i. Err i
 
--- the next token's kind, text and span, and the tokens behind it
-abbrev pub kind : Word → Kind
-kind [] = k.Nothing
-kind (t ∷ ts) = t.kind
+-- the next token's terminal, text and span, and the tokens behind it
+abbrev pub terminal : Word → Terminal
+terminal [] = the.Nothing
+terminal (t ∷ ts) = t.terminal
 
 abbrev pub text : Word → List ℕ
 text [] = []
@@ -49,8 +49,8 @@ abbrev pub next : Word → Word
 next [] = []
 next (t ∷ ts) = ts
 
-abbrev pub peek : Parser Kind
-peek = λ i. Ok (kind i, i)
+abbrev pub peek : Parser Terminal
+peek = λ i. Ok (terminal i, i)
 
 abbrev pub here : Parser Word
 here = λ i. Ok (i, i)
@@ -59,21 +59,21 @@ here = λ i. Ok (i, i)
 abbrev pub skip : Parser (Unit {0})
 skip = λ i. Ok (tt, next i)
 
-unfoldable pub sees : Kind → Word → Bool
-sees k i = same_kind (kind i) k
+unfoldable pub sees : Terminal → Word → Bool
+sees k i = same_terminal (terminal i) k
 
--- whether a token of this kind is next
-abbrev pub ahead : Kind → Parser Bool
+-- whether a token of this terminal is next
+abbrev pub ahead : Terminal → Parser Bool
 ahead k = λ i. Ok (sees k i, i)
 
-unfoldable pub after : Kind → Word → Word
+unfoldable pub after : Terminal → Word → Word
 after k i = if sees k i then next i else i
 
 -- the same, and takes it
-abbrev pub eat : Kind → Parser Bool
+abbrev pub eat : Terminal → Parser Bool
 eat k = λ i. Ok (sees k i, after k i)
 
-unfoldable pub expect : Kind → Parser (Unit {0})
+unfoldable pub expect : Terminal → Parser (Unit {0})
 expect k = λ i. if sees k i then Ok (tt, next i) else Err i
 
 -- the end of the tokens
@@ -83,15 +83,15 @@ expect_end (t ∷ ts) = Err (t ∷ ts)
 
 -- the next token as an identifier
 unfoldable pub ident : Parser Ident
-ident = λ i. if sees k.Identifier i then Ok (record { text = text i; span = span i }, next i) else Err i
+ident = λ i. if sees the.Identifier i then Ok (record { text = text i; span = span i }, next i) else Err i
 
 abbrev pub literal_by : {A : Type 0} → Option A → Parser A
 literal_by (Some a) = λ i. Ok (a, next i)
 literal_by None = refuse
 
--- the value of the next token, where it is of this kind and its text has one
-unfoldable pub literal : {A : Type 0} → Kind → (List ℕ → Option A) → Parser A
-literal kind value = λ i. if sees kind i then literal_by (value (text i)) i else Err i
+-- the value of the next token, where it is of this terminal and its text has one
+unfoldable pub literal : {A : Type 0} → Terminal → (List ℕ → Option A) → Parser A
+literal terminal value = λ i. if sees terminal i then literal_by (value (text i)) i else Err i
 
 abbrev pub value_of : Result ℤ DecimalError → Option ℤ
 value_of (Ok q) = Some q
@@ -110,7 +110,7 @@ unfoldable pub made : {A : Type 0} → (Word → A) → Word → Parser A
 made f start = λ i. Ok (f (since start i), i)
 
 -- item { separator item }, behind the items that are found: at most so many turns
-module _ {A : Type 0} (separator : Kind) (item : Parser A) where
+module _ {A : Type 0} (separator : Terminal) (item : Parser A) where
   unfoldable pub list_from : ℕ → List A → Parser (List A)
   list_from zero found = pure found
   list_from (suc turns) found = do

@@ -1,13 +1,12 @@
 // Connect statements.
-ghost use Rattle.std.specs.Prelude.{◌≡◌, List, []};
 ghost use Rattle.cdl_parse.specs.Gives.{Gives};
 ghost use Rattle.cdl_parse.specs.Declarations as spec;
 
 use crate::cursor::{Cursor, Fault};
-use crate::declaration::{note_clause, tail};
+use crate::declaration::tail;
 use crate::expression::expr;
 use cdl_source::List;
-use cdl_tree::{Connect, Kind, Part, Ref, Sub};
+use cdl_tree::{Connect, Terminal, Part, Ref, Sub};
 use std::alloc::Global;
 
 // sub = ":" | expr [ ":" expr ]
@@ -15,11 +14,11 @@ use std::alloc::Global;
 fn sub(alloc: Global, tokens: &mut Cursor<'_>, most: usize) -> Result<Sub, Fault>
     ensures { Gives (spec.sub_of most tokens.old) result tokens.new }
 {
-    if tokens.eat(Kind::Colon) {
+    if tokens.eat(Terminal::Colon) {
         return Ok(Sub::All);
     }
     let low = expr(alloc, tokens, most)?;
-    if !tokens.eat(Kind::Colon) {
+    if !tokens.eat(Terminal::Colon) {
         return Ok(Sub::One(low));
     }
     let high = expr(alloc, tokens, most)?;
@@ -33,7 +32,7 @@ fn sub_list(alloc: Global, tokens: &mut Cursor<'_>, most: usize) -> Result<List<
     let mut found = List::new(alloc);
     found.push(sub(alloc, tokens, most)?)?;
     for _turn in 0..most {
-        if !tokens.eat(Kind::Comma) {
+        if !tokens.eat(Terminal::Comma) {
             return Ok(found);
         }
         found.push(sub(alloc, tokens, most)?)?;
@@ -46,11 +45,11 @@ fn sub_list(alloc: Global, tokens: &mut Cursor<'_>, most: usize) -> Result<List<
 fn subs(alloc: Global, tokens: &mut Cursor<'_>, most: usize) -> Result<List<Sub>, Fault>
     ensures { Gives (spec.subs most tokens.old) result tokens.new }
 {
-    if !tokens.eat(Kind::OpenBracket) {
+    if !tokens.eat(Terminal::OpenBracket) {
         return Ok(List::new(alloc));
     }
     let found = sub_list(alloc, tokens, most)?;
-    tokens.expect(Kind::CloseBracket)?;
+    tokens.expect(Terminal::CloseBracket)?;
     Ok(found)
 }
 
@@ -71,7 +70,7 @@ fn reference(alloc: Global, tokens: &mut Cursor<'_>, most: usize) -> Result<List
     let mut found = List::new(alloc);
     found.push(part(alloc, tokens, most)?)?;
     for _turn in 0..most {
-        if !tokens.eat(Kind::Period) {
+        if !tokens.eat(Terminal::Period) {
             return Ok(found);
         }
         found.push(part(alloc, tokens, most)?)?;
@@ -79,82 +78,28 @@ fn reference(alloc: Global, tokens: &mut Cursor<'_>, most: usize) -> Result<List
     Ok(found)
 }
 
-// connect = "connect" "(" ref "," ref ")" tail ";"
+/// `connect = "connect" "(" ref "," ref ")" tail ";"`
 #[tactic(auto, unfolding(crate::specs::Declarations::connect, crate::specs::Reading::made, cdl_tree::specs::Trees::the_connect))]
-fn connect(alloc: Global, tokens: &mut Cursor<'_>, most: usize) -> Result<Connect, Fault>
+pub(crate) fn connect(
+    alloc: Global,
+    tokens: &mut Cursor<'_>,
+    most: usize,
+) -> Result<Connect, Fault>
     ensures { Gives (spec.connect most tokens.old) result tokens.new }
 {
     let start = tokens.here();
-    tokens.expect(Kind::Connect)?;
-    tokens.expect(Kind::Open)?;
+    tokens.expect(Terminal::Connect)?;
+    tokens.expect(Terminal::Open)?;
     let left = reference(alloc, tokens, most)?;
-    tokens.expect(Kind::Comma)?;
+    tokens.expect(Terminal::Comma)?;
     let right = reference(alloc, tokens, most)?;
-    tokens.expect(Kind::Close)?;
+    tokens.expect(Terminal::Close)?;
     tail(tokens, most)?;
-    tokens.expect(Kind::Semicolon)?;
+    tokens.expect(Terminal::Semicolon)?;
     let span = tokens.span_since(&start);
     Ok(Connect {
         left: Ref { parts: left },
         right: Ref { parts: right },
         span,
     })
-}
-
-fn begins_statement(kind: Kind) -> bool
-    ensures { result ≡ spec.begins_statement kind }
-{
-    match kind {
-        Kind::Connect | Kind::Annotation => true,
-        _ => false,
-    }
-}
-
-// connect | note ";", behind the statements that are found
-#[tactic(auto, unfolding(crate::specs::Declarations::statement))]
-fn statement(
-    alloc: Global,
-    tokens: &mut Cursor<'_>,
-    most: usize,
-    mut found: List<Connect>,
-) -> Result<List<Connect>, Fault>
-    ensures { Gives (spec.statement most found tokens.old) result tokens.new }
-{
-    if tokens.sees(Kind::Connect) {
-        found.push(connect(alloc, tokens, most)?)?;
-        Ok(found)
-    } else {
-        note_clause(tokens, most)?;
-        Ok(found)
-    }
-}
-
-// { connect | note ";" }
-fn statements(alloc: Global, tokens: &mut Cursor<'_>, most: usize) -> Result<List<Connect>, Fault>
-    ensures { Gives (spec.statements_from most most [] tokens.old) result tokens.new }
-{
-    let mut found = List::new(alloc);
-    for _turn in 0..most {
-        if !begins_statement(tokens.peek()) {
-            return Ok(found);
-        }
-        found = statement(alloc, tokens, most, found)?;
-    }
-    Ok(found)
-}
-
-/// `[ "equation" { connect | note ";" } ]`
-#[tactic(auto, unfolding(crate::specs::Declarations::equation_part))]
-pub(crate) fn equation_part(
-    alloc: Global,
-    tokens: &mut Cursor<'_>,
-    most: usize,
-) -> Result<List<Connect>, Fault>
-    ensures { Gives (spec.equation_part most tokens.old) result tokens.new }
-{
-    if tokens.eat(Kind::Equation) {
-        statements(alloc, tokens, most)
-    } else {
-        Ok(List::new(alloc))
-    }
 }

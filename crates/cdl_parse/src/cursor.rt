@@ -1,7 +1,7 @@
 // A place among the tokens, from which the rules read on.
 ghost use Rattle.std.specs.Prelude.{◌≡◌, length, Option};
 ghost use Rattle.cdl_lex.specs.TokenList.{LiesWithin};
-ghost use Rattle.cdl_tree.specs.Terminals as terminals;
+ghost use Rattle.cdl_tree.specs.Terminals as lexemes;
 ghost use Rattle.cdl_tree.specs.Words as words;
 ghost use Rattle.cdl_tree.specs.Trees as trees;
 ghost use Rattle.cdl_tree.specs.Literals as literals;
@@ -12,7 +12,7 @@ ghost use Rattle.cdl_parse.specs.Verdict.{word_of};
 use cdl_decimal::Real;
 use cdl_lex::Tokens;
 use cdl_source::{OutOfMemory, Span, Text, Token};
-use cdl_tree::{Expr, Ident, Kind, Node, integer, kind_of, string};
+use cdl_tree::{Expr, Ident, Terminal, Node, integer, terminal_of, string};
 use std::alloc::{AllocError, Global};
 use std::marker::Model;
 
@@ -68,7 +68,7 @@ impl<'a> Model for Cursor<'a> {
 // A token's text.
 fn text_of(tokens: &Tokens, token: Token) -> &[u8]
     requires { LiesWithin tokens.now.bytes token }
-    ensures { result.now ≡ terminals.text_of tokens.now.bytes token }
+    ensures { result.now ≡ lexemes.text_of tokens.now.bytes token }
 {
     &tokens.bytes()[token.span.start as usize..token.span.end as usize]
 }
@@ -81,15 +81,15 @@ impl<'a> Cursor<'a> {
         Cursor { tokens, at: 0 }
     }
 
-    /// The kind of the next token, `Nothing` behind the last one.
-    pub(crate) fn peek(&self) -> Kind
-        ensures { result ≡ spec.kind self.now }
+    /// The terminal of the next token, `Nothing` behind the last one.
+    pub(crate) fn peek(&self) -> Terminal
+        ensures { result ≡ spec.terminal self.now }
     {
         if self.at == self.tokens.len() {
-            return Kind::Nothing;
+            return Terminal::Nothing;
         }
         let token = self.tokens.token(self.at);
-        kind_of(token.sort, text_of(self.tokens, token))
+        terminal_of(token.sort, text_of(self.tokens, token))
     }
 
     /// The text of the next token, nothing behind the last one.
@@ -112,11 +112,11 @@ impl<'a> Cursor<'a> {
         self.tokens.token(self.at).span
     }
 
-    #[tactic(auto, unfolding(crate::specs::Reading::sees, cdl_tree::specs::Words::same_kind))]
-    pub(crate) fn sees(&self, kind: Kind) -> bool
-        ensures { result ≡ spec.sees kind self.now }
+    #[tactic(auto, unfolding(crate::specs::Reading::sees, cdl_tree::specs::Words::same_terminal))]
+    pub(crate) fn sees(&self, terminal: Terminal) -> bool
+        ensures { result ≡ spec.sees terminal self.now }
     {
-        self.peek() == kind
+        self.peek() == terminal
     }
 
     /// Goes past the next token, where there is one.
@@ -128,25 +128,25 @@ impl<'a> Cursor<'a> {
         }
     }
 
-    /// Takes a token of this kind, if one is next, and says so.
+    /// Takes a token of this terminal, if one is next, and says so.
     #[tactic(auto, unfolding(crate::specs::Reading::after))]
-    pub(crate) fn eat(&mut self, kind: Kind) -> bool
-        ensures found { result ≡ spec.sees kind self.old }
-        ensures after { self.new ≡ spec.after kind self.old }
+    pub(crate) fn eat(&mut self, terminal: Terminal) -> bool
+        ensures found { result ≡ spec.sees terminal self.old }
+        ensures after { self.new ≡ spec.after terminal self.old }
     {
-        let found = self.sees(kind);
+        let found = self.sees(terminal);
         if found {
             self.skip();
         }
         found
     }
 
-    /// Takes a token of this kind. A fault leaves the cursor where it was.
+    /// Takes a token of this terminal. A fault leaves the cursor where it was.
     #[tactic(auto, unfolding(crate::specs::Reading::expect))]
-    pub(crate) fn expect(&mut self, kind: Kind) -> Result<(), Fault>
-        ensures { Gives (spec.expect kind self.old) result self.new }
+    pub(crate) fn expect(&mut self, terminal: Terminal) -> Result<(), Fault>
+        ensures { Gives (spec.expect terminal self.old) result self.new }
     {
-        if self.sees(kind) {
+        if self.sees(terminal) {
             self.skip();
             Ok(())
         } else {
@@ -171,7 +171,7 @@ impl<'a> Cursor<'a> {
     pub(crate) fn ident(&mut self, alloc: Global) -> Result<Ident, Fault>
         ensures { Gives (spec.ident self.old) result self.new }
     {
-        if !self.sees(Kind::Identifier) {
+        if !self.sees(Terminal::Identifier) {
             return Err(Fault::Syntax);
         }
         let mut text = Text::new(alloc);
@@ -184,9 +184,9 @@ impl<'a> Cursor<'a> {
     /// Takes a whole number that is not too great. A fault leaves the cursor where it was.
     #[tactic(auto, unfolding(crate::specs::Reading::literal))]
     pub(crate) fn integer(&mut self) -> Result<i32, Fault>
-        ensures { Gives (spec.literal Kind.Integer literals.integer_of self.old) result self.new }
+        ensures { Gives (spec.literal Terminal.Integer literals.integer_of self.old) result self.new }
     {
-        if !self.sees(Kind::Integer) {
+        if !self.sees(Terminal::Integer) {
             return Err(Fault::Syntax);
         }
         let Some(value) = integer(self.text()) else {
@@ -199,9 +199,9 @@ impl<'a> Cursor<'a> {
     /// Takes another number that is in range. A fault leaves the cursor where it was.
     #[tactic(auto, unfolding(crate::specs::Reading::literal))]
     pub(crate) fn real(&mut self) -> Result<Real, Fault>
-        ensures { Gives (spec.literal Kind.Real spec.real_of self.old) result self.new }
+        ensures { Gives (spec.literal Terminal.Real spec.real_of self.old) result self.new }
     {
-        if !self.sees(Kind::Real) {
+        if !self.sees(Terminal::Real) {
             return Err(Fault::Syntax);
         }
         let Ok(value) = cdl_decimal::parse(self.text()) else {
@@ -214,9 +214,9 @@ impl<'a> Cursor<'a> {
     /// Takes a string. A fault leaves the cursor where it was.
     #[tactic(auto, unfolding(crate::specs::Reading::literal))]
     pub(crate) fn string(&mut self, alloc: Global) -> Result<Text, Fault>
-        ensures { Gives (spec.literal Kind.Str literals.string_of self.old) result self.new }
+        ensures { Gives (spec.literal Terminal.Str literals.string_of self.old) result self.new }
     {
-        if !self.sees(Kind::Str) {
+        if !self.sees(Terminal::Str) {
             return Err(Fault::Syntax);
         }
         let Some(value) = string(alloc, self.text())? else {

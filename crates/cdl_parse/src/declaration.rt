@@ -9,7 +9,7 @@ ghost use Rattle.cdl_parse.specs.Declarations as spec;
 use crate::cursor::{Cursor, Fault};
 use crate::expression::{expr, name};
 use cdl_source::List;
-use cdl_tree::{Dim, Expr, Item, Kind, Modifier, Name, Prefix};
+use cdl_tree::{Dim, Expr, Item, Terminal, Modifier, Name, Prefix};
 use std::alloc::Global;
 
 // { "+" STRING }
@@ -17,10 +17,10 @@ fn strings(tokens: &mut Cursor<'_>, most: usize) -> Result<(), Fault>
     ensures { Gives (spec.strings_from most tokens.old) result tokens.new }
 {
     for _turn in 0..most {
-        if !tokens.eat(Kind::Plus) {
+        if !tokens.eat(Terminal::Plus) {
             return Ok(());
         }
-        tokens.expect(Kind::Str)?;
+        tokens.expect(Terminal::Str)?;
     }
     Ok(())
 }
@@ -30,7 +30,7 @@ fn strings(tokens: &mut Cursor<'_>, most: usize) -> Result<(), Fault>
 pub(crate) fn text(tokens: &mut Cursor<'_>, most: usize) -> Result<(), Fault>
     ensures { Gives (spec.text_of most tokens.old) result tokens.new }
 {
-    if tokens.eat(Kind::Str) {
+    if tokens.eat(Terminal::Str) {
         strings(tokens, most)
     } else {
         Ok(())
@@ -38,28 +38,28 @@ pub(crate) fn text(tokens: &mut Cursor<'_>, most: usize) -> Result<(), Fault>
 }
 
 // What closes a bracket.
-fn partner(kind: Kind) -> Option<Kind>
-    ensures { result ≡ grammar.partner kind }
+fn partner(terminal: Terminal) -> Option<Terminal>
+    ensures { result ≡ grammar.partner terminal }
 {
-    match kind {
-        Kind::Open => Some(Kind::Close),
-        Kind::OpenBracket => Some(Kind::CloseBracket),
-        Kind::OpenBrace => Some(Kind::CloseBrace),
+    match terminal {
+        Terminal::Open => Some(Terminal::Close),
+        Terminal::OpenBracket => Some(Terminal::CloseBracket),
+        Terminal::OpenBrace => Some(Terminal::CloseBrace),
         _ => None,
     }
 }
 
-fn is_plain(kind: Kind) -> bool
-    ensures { result ≡ grammar.is_plain kind }
+fn is_plain(terminal: Terminal) -> bool
+    ensures { result ≡ grammar.is_plain terminal }
 {
-    match kind {
-        Kind::Open
-        | Kind::Close
-        | Kind::OpenBracket
-        | Kind::CloseBracket
-        | Kind::OpenBrace
-        | Kind::CloseBrace
-        | Kind::Nothing => false,
+    match terminal {
+        Terminal::Open
+        | Terminal::Close
+        | Terminal::OpenBracket
+        | Terminal::CloseBracket
+        | Terminal::OpenBrace
+        | Terminal::CloseBrace
+        | Terminal::Nothing => false,
         _ => true,
     }
 }
@@ -77,11 +77,11 @@ fn plain(tokens: &mut Cursor<'_>) -> Result<(), Fault>
 }
 
 // No closing bracket and not the end.
-fn begins_balanced(kind: Kind) -> bool
-    ensures { result ≡ spec.begins_balanced kind }
+fn begins_balanced(terminal: Terminal) -> bool
+    ensures { result ≡ spec.begins_balanced terminal }
 {
-    match kind {
-        Kind::Close | Kind::CloseBracket | Kind::CloseBrace | Kind::Nothing => false,
+    match terminal {
+        Terminal::Close | Terminal::CloseBracket | Terminal::CloseBrace | Terminal::Nothing => false,
         _ => true,
     }
 }
@@ -132,10 +132,10 @@ fn balanced_part(tokens: &mut Cursor<'_>, depth: usize) -> Result<(), Fault>
 fn note(tokens: &mut Cursor<'_>, most: usize) -> Result<(), Fault>
     ensures { Gives (spec.note most tokens.old) result tokens.new }
 {
-    tokens.expect(Kind::Annotation)?;
-    tokens.expect(Kind::Open)?;
+    tokens.expect(Terminal::Annotation)?;
+    tokens.expect(Terminal::Open)?;
     balanced(tokens, most)?;
-    tokens.expect(Kind::Close)
+    tokens.expect(Terminal::Close)
 }
 
 /// `note ";"`
@@ -144,7 +144,7 @@ pub(crate) fn note_clause(tokens: &mut Cursor<'_>, most: usize) -> Result<(), Fa
     ensures { Gives (spec.note_clause most tokens.old) result tokens.new }
 {
     note(tokens, most)?;
-    tokens.expect(Kind::Semicolon)
+    tokens.expect(Terminal::Semicolon)
 }
 
 /// `tail = text [ note ]`
@@ -153,7 +153,7 @@ pub(crate) fn tail(tokens: &mut Cursor<'_>, most: usize) -> Result<(), Fault>
     ensures { Gives (spec.tail most tokens.old) result tokens.new }
 {
     text(tokens, most)?;
-    if tokens.sees(Kind::Annotation) {
+    if tokens.sees(Terminal::Annotation) {
         note(tokens, most)
     } else {
         Ok(())
@@ -165,12 +165,12 @@ pub(crate) fn tail(tokens: &mut Cursor<'_>, most: usize) -> Result<(), Fault>
 fn optional(
     alloc: Global,
     tokens: &mut Cursor<'_>,
-    kind: Kind,
+    terminal: Terminal,
     most: usize,
 ) -> Result<Option<Expr>, Fault>
-    ensures { Gives (spec.optional kind most tokens.old) result tokens.new }
+    ensures { Gives (spec.optional terminal most tokens.old) result tokens.new }
 {
-    if !tokens.eat(kind) {
+    if !tokens.eat(terminal) {
         return Ok(None);
     }
     let value = expr(alloc, tokens, most)?;
@@ -200,7 +200,7 @@ impl<F: Fn(Global, &mut Cursor<'_>, usize) -> Result<List<Modifier>, Fault>> Arg
         requires { Nests spec.args self.now.depth (F.pre self.now.whole) (F.post self.now.whole) }
         ensures { Gives (spec.optional_args (spec.args self.now.depth) tokens.old) result tokens.new }
     {
-        if !tokens.sees(Kind::Open) {
+        if !tokens.sees(Terminal::Open) {
             return Ok(None);
         }
         let args = self.whole(tokens)?;
@@ -214,11 +214,11 @@ impl<F: Fn(Global, &mut Cursor<'_>, usize) -> Result<List<Modifier>, Fault>> Arg
         ensures { Gives (spec.arg self.now.depth (spec.args self.now.depth) tokens.old) result tokens.new }
     {
         let start = tokens.here();
-        let each = tokens.eat(Kind::Each);
-        let is_final = tokens.eat(Kind::Final);
+        let each = tokens.eat(Terminal::Each);
+        let is_final = tokens.eat(Terminal::Final);
         let name = tokens.ident(self.alloc)?;
         let args = self.optional(tokens)?;
-        let value = optional(self.alloc, tokens, Kind::Equals, self.depth)?;
+        let value = optional(self.alloc, tokens, Terminal::Equals, self.depth)?;
         text(tokens, self.depth)?;
         let span = tokens.span_since(&start);
         Ok(Modifier {
@@ -239,7 +239,7 @@ impl<F: Fn(Global, &mut Cursor<'_>, usize) -> Result<List<Modifier>, Fault>> Arg
         let mut found = List::new(self.alloc);
         found.push(self.arg(tokens)?)?;
         for _turn in 0..self.depth {
-            if !tokens.eat(Kind::Comma) {
+            if !tokens.eat(Terminal::Comma) {
                 return Ok(found);
             }
             found.push(self.arg(tokens)?)?;
@@ -253,12 +253,12 @@ impl<F: Fn(Global, &mut Cursor<'_>, usize) -> Result<List<Modifier>, Fault>> Arg
         requires { Nests spec.args self.now.depth (F.pre self.now.whole) (F.post self.now.whole) }
         ensures { Gives (spec.arguments self.now.depth (spec.args self.now.depth) tokens.old) result tokens.new }
     {
-        tokens.expect(Kind::Open)?;
-        if tokens.eat(Kind::Close) {
+        tokens.expect(Terminal::Open)?;
+        if tokens.eat(Terminal::Close) {
             return Ok(List::new(self.alloc));
         }
         let found = self.list(tokens)?;
-        tokens.expect(Kind::Close)?;
+        tokens.expect(Terminal::Close)?;
         Ok(found)
     }
 }
@@ -287,7 +287,7 @@ fn optional_args(
 ) -> Result<Option<List<Modifier>>, Fault>
     ensures { Gives (spec.optional_args (spec.args most) tokens.old) result tokens.new }
 {
-    if !tokens.sees(Kind::Open) {
+    if !tokens.sees(Terminal::Open) {
         return Ok(None);
     }
     let found = args(alloc, tokens, most)?;
@@ -309,7 +309,7 @@ fn listed(alloc: Global, args: Option<List<Modifier>>) -> List<Modifier>
 fn dim(alloc: Global, tokens: &mut Cursor<'_>, most: usize) -> Result<Dim, Fault>
     ensures { Gives (spec.dim_of most tokens.old) result tokens.new }
 {
-    if tokens.eat(Kind::Colon) {
+    if tokens.eat(Terminal::Colon) {
         return Ok(Dim::Any);
     }
     let size = expr(alloc, tokens, most)?;
@@ -323,7 +323,7 @@ fn dim_list(alloc: Global, tokens: &mut Cursor<'_>, most: usize) -> Result<List<
     let mut found = List::new(alloc);
     found.push(dim(alloc, tokens, most)?)?;
     for _turn in 0..most {
-        if !tokens.eat(Kind::Comma) {
+        if !tokens.eat(Terminal::Comma) {
             return Ok(found);
         }
         found.push(dim(alloc, tokens, most)?)?;
@@ -336,11 +336,11 @@ fn dim_list(alloc: Global, tokens: &mut Cursor<'_>, most: usize) -> Result<List<
 fn dims(alloc: Global, tokens: &mut Cursor<'_>, most: usize) -> Result<List<Dim>, Fault>
     ensures { Gives (spec.dims most tokens.old) result tokens.new }
 {
-    if !tokens.eat(Kind::OpenBracket) {
+    if !tokens.eat(Terminal::OpenBracket) {
         return Ok(List::new(alloc));
     }
     let found = dim_list(alloc, tokens, most)?;
-    tokens.expect(Kind::CloseBracket)?;
+    tokens.expect(Terminal::CloseBracket)?;
     Ok(found)
 }
 
@@ -361,8 +361,8 @@ fn decl(alloc: Global, tokens: &mut Cursor<'_>, most: usize, head: &Head) -> Res
     let name = tokens.ident(alloc)?;
     let dims = dims(alloc, tokens, most)?;
     let args = optional_args(alloc, tokens, most)?;
-    let value = optional(alloc, tokens, Kind::Equals, most)?;
-    let condition = optional(alloc, tokens, Kind::If, most)?;
+    let value = optional(alloc, tokens, Terminal::Equals, most)?;
+    let condition = optional(alloc, tokens, Terminal::If, most)?;
     tail(tokens, most)?;
     let class = head.class.copy(alloc)?;
     let span = tokens.span_since(&start);
@@ -391,7 +391,7 @@ fn decls(
 {
     found.push(decl(alloc, tokens, most, head)?)?;
     for _turn in 0..most {
-        if !tokens.eat(Kind::Comma) {
+        if !tokens.eat(Terminal::Comma) {
             return Ok(found);
         }
         found.push(decl(alloc, tokens, most, head)?)?;
@@ -404,10 +404,10 @@ fn decls(
 fn prefix(tokens: &mut Cursor<'_>) -> Prefix
     ensures { spec.prefix_of tokens.old ≡ Success (result, tokens.new) }
 {
-    if tokens.eat(Kind::Parameter) {
+    if tokens.eat(Terminal::Parameter) {
         return Prefix::Parameter;
     }
-    if tokens.eat(Kind::Constant) {
+    if tokens.eat(Terminal::Constant) {
         return Prefix::Constant;
     }
     Prefix::Plain
@@ -423,7 +423,7 @@ pub(crate) fn clause(
 ) -> Result<List<Item>, Fault>
     ensures { Gives (spec.clause most found tokens.old) result tokens.new }
 {
-    let is_final = tokens.eat(Kind::Final);
+    let is_final = tokens.eat(Terminal::Final);
     let prefix = prefix(tokens);
     let parts = name(alloc, tokens, most)?;
     let head = Head {
@@ -432,7 +432,7 @@ pub(crate) fn clause(
         class: Name { parts },
     };
     let items = decls(alloc, tokens, most, &head, found)?;
-    tokens.expect(Kind::Semicolon)?;
+    tokens.expect(Terminal::Semicolon)?;
     Ok(items)
 }
 
@@ -446,8 +446,8 @@ pub(crate) fn constant(
 ) -> Result<List<Item>, Fault>
     ensures { Gives (spec.constant most found tokens.old) result tokens.new }
 {
-    let is_final = tokens.eat(Kind::Final);
-    tokens.expect(Kind::Constant)?;
+    let is_final = tokens.eat(Terminal::Final);
+    tokens.expect(Terminal::Constant)?;
     let parts = name(alloc, tokens, most)?;
     let head = Head {
         is_final,
@@ -455,6 +455,6 @@ pub(crate) fn constant(
         class: Name { parts },
     };
     let items = decls(alloc, tokens, most, &head, found)?;
-    tokens.expect(Kind::Semicolon)?;
+    tokens.expect(Terminal::Semicolon)?;
     Ok(items)
 }

@@ -10,58 +10,58 @@ ghost use Rattle.cdl_parse.specs.Expressions as spec;
 
 use crate::cursor::{Cursor, Fault};
 use cdl_source::List;
-use cdl_tree::{Expr, Ident, Kind, Name, Node, Op};
+use cdl_tree::{Expr, Ident, Terminal, Name, Node, Op};
 use sqlite_items::Boxed;
 use std::alloc::Global;
 
-fn disjunction(kind: Kind) -> Option<Op>
-    ensures { result ≡ spec.disjunction kind }
+fn disjunction(terminal: Terminal) -> Option<Op>
+    ensures { result ≡ spec.disjunction terminal }
 {
-    match kind {
-        Kind::Or => Some(Op::Or),
+    match terminal {
+        Terminal::Or => Some(Op::Or),
         _ => None,
     }
 }
 
-fn conjunction(kind: Kind) -> Option<Op>
-    ensures { result ≡ spec.conjunction kind }
+fn conjunction(terminal: Terminal) -> Option<Op>
+    ensures { result ≡ spec.conjunction terminal }
 {
-    match kind {
-        Kind::And => Some(Op::And),
+    match terminal {
+        Terminal::And => Some(Op::And),
         _ => None,
     }
 }
 
-fn comparison(kind: Kind) -> Option<Op>
-    ensures { result ≡ trees.comparison kind }
+fn comparison(terminal: Terminal) -> Option<Op>
+    ensures { result ≡ trees.comparison terminal }
 {
-    match kind {
-        Kind::Less => Some(Op::Less),
-        Kind::LessEqual => Some(Op::LessEqual),
-        Kind::Greater => Some(Op::Greater),
-        Kind::GreaterEqual => Some(Op::GreaterEqual),
-        Kind::EqualEqual => Some(Op::Equal),
-        Kind::NotEqual => Some(Op::NotEqual),
+    match terminal {
+        Terminal::Less => Some(Op::Less),
+        Terminal::LessEqual => Some(Op::LessEqual),
+        Terminal::Greater => Some(Op::Greater),
+        Terminal::GreaterEqual => Some(Op::GreaterEqual),
+        Terminal::EqualEqual => Some(Op::Equal),
+        Terminal::NotEqual => Some(Op::NotEqual),
         _ => None,
     }
 }
 
-fn sign(kind: Kind) -> Option<Op>
-    ensures { result ≡ trees.sign kind }
+fn sign(terminal: Terminal) -> Option<Op>
+    ensures { result ≡ trees.sign terminal }
 {
-    match kind {
-        Kind::Plus => Some(Op::Plus),
-        Kind::Minus => Some(Op::Minus),
+    match terminal {
+        Terminal::Plus => Some(Op::Plus),
+        Terminal::Minus => Some(Op::Minus),
         _ => None,
     }
 }
 
-fn factor(kind: Kind) -> Option<Op>
-    ensures { result ≡ trees.factor kind }
+fn factor(terminal: Terminal) -> Option<Op>
+    ensures { result ≡ trees.factor terminal }
 {
-    match kind {
-        Kind::Star => Some(Op::Times),
-        Kind::Slash => Some(Op::Divide),
+    match terminal {
+        Terminal::Star => Some(Op::Times),
+        Terminal::Slash => Some(Op::Divide),
         _ => None,
     }
 }
@@ -77,7 +77,7 @@ pub(crate) fn name(
     let mut parts = List::new(alloc);
     parts.push(tokens.ident(alloc)?)?;
     for _turn in 0..most {
-        if !tokens.eat(Kind::Period) {
+        if !tokens.eat(Terminal::Period) {
             return Ok(parts);
         }
         parts.push(tokens.ident(alloc)?)?;
@@ -110,7 +110,7 @@ impl<F: Fn(Global, &mut Cursor<'_>, usize) -> Result<Expr, Fault>> Grammar<F> {
         let mut found = List::new(self.alloc);
         found.push(self.whole(tokens)?)?;
         for _turn in 0..self.depth {
-            if !tokens.eat(Kind::Comma) {
+            if !tokens.eat(Terminal::Comma) {
                 return Ok(found);
             }
             found.push(self.whole(tokens)?)?;
@@ -150,7 +150,7 @@ impl<F: Fn(Global, &mut Cursor<'_>, usize) -> Result<Expr, Fault>> Grammar<F> {
         ensures { Gives (spec.true_word self.now.depth (spec.expr self.now.depth) tokens.old) result tokens.new }
     {
         let start = tokens.here();
-        tokens.expect(Kind::True)?;
+        tokens.expect(Terminal::True)?;
         Ok(tokens.made(Node::Boolean(true), &start))
     }
 
@@ -159,7 +159,7 @@ impl<F: Fn(Global, &mut Cursor<'_>, usize) -> Result<Expr, Fault>> Grammar<F> {
         ensures { Gives (spec.false_word self.now.depth (spec.expr self.now.depth) tokens.old) result tokens.new }
     {
         let start = tokens.here();
-        tokens.expect(Kind::False)?;
+        tokens.expect(Terminal::False)?;
         Ok(tokens.made(Node::Boolean(false), &start))
     }
 
@@ -169,9 +169,9 @@ impl<F: Fn(Global, &mut Cursor<'_>, usize) -> Result<Expr, Fault>> Grammar<F> {
         requires { Nests spec.expr self.now.depth (F.pre self.now.whole) (F.post self.now.whole) }
         ensures { Gives (spec.paren self.now.depth (spec.expr self.now.depth) tokens.old) result tokens.new }
     {
-        tokens.expect(Kind::Open)?;
+        tokens.expect(Terminal::Open)?;
         let found = self.whole(tokens)?;
-        tokens.expect(Kind::Close)?;
+        tokens.expect(Terminal::Close)?;
         Ok(found)
     }
 
@@ -182,9 +182,9 @@ impl<F: Fn(Global, &mut Cursor<'_>, usize) -> Result<Expr, Fault>> Grammar<F> {
         ensures { Gives (spec.array self.now.depth (spec.expr self.now.depth) tokens.old) result tokens.new }
     {
         let start = tokens.here();
-        tokens.expect(Kind::OpenBrace)?;
+        tokens.expect(Terminal::OpenBrace)?;
         let found = self.exprs(tokens)?;
-        tokens.expect(Kind::CloseBrace)?;
+        tokens.expect(Terminal::CloseBrace)?;
         Ok(tokens.made(Node::Array(found), &start))
     }
 
@@ -194,11 +194,11 @@ impl<F: Fn(Global, &mut Cursor<'_>, usize) -> Result<Expr, Fault>> Grammar<F> {
         requires { Nests spec.expr self.now.depth (F.pre self.now.whole) (F.post self.now.whole) }
         ensures { Gives (spec.operands self.now.depth (spec.expr self.now.depth) tokens.old) result tokens.new }
     {
-        if tokens.eat(Kind::Close) {
+        if tokens.eat(Terminal::Close) {
             return Ok(List::new(self.alloc));
         }
         let found = self.exprs(tokens)?;
-        tokens.expect(Kind::Close)?;
+        tokens.expect(Terminal::Close)?;
         Ok(found)
     }
 
@@ -208,11 +208,11 @@ impl<F: Fn(Global, &mut Cursor<'_>, usize) -> Result<Expr, Fault>> Grammar<F> {
         requires { Nests spec.expr self.now.depth (F.pre self.now.whole) (F.post self.now.whole) }
         ensures { Gives (spec.subscripts self.now.depth (spec.expr self.now.depth) tokens.old) result tokens.new }
     {
-        if !tokens.eat(Kind::OpenBracket) {
+        if !tokens.eat(Terminal::OpenBracket) {
             return Ok(List::new(self.alloc));
         }
         let found = self.exprs(tokens)?;
-        tokens.expect(Kind::CloseBracket)?;
+        tokens.expect(Terminal::CloseBracket)?;
         Ok(found)
     }
 
@@ -233,12 +233,12 @@ impl<F: Fn(Global, &mut Cursor<'_>, usize) -> Result<Expr, Fault>> Grammar<F> {
 
     // The other parts of a name behind its first one.
     fn parts(&self, tokens: &mut Cursor<'_>, first: Ident) -> Result<List<Ident>, Fault>
-        ensures { Gives (reading.list_from Kind.Period reading.ident self.now.depth (first ∷ []) tokens.old) result tokens.new }
+        ensures { Gives (reading.list_from Terminal.Period reading.ident self.now.depth (first ∷ []) tokens.old) result tokens.new }
     {
         let mut parts = List::new(self.alloc);
         parts.push(first)?;
         for _turn in 0..self.depth {
-            if !tokens.eat(Kind::Period) {
+            if !tokens.eat(Terminal::Period) {
                 return Ok(parts);
             }
             parts.push(tokens.ident(self.alloc)?)?;
@@ -271,7 +271,7 @@ impl<F: Fn(Global, &mut Cursor<'_>, usize) -> Result<Expr, Fault>> Grammar<F> {
     {
         let start = tokens.here();
         let first = tokens.ident(self.alloc)?;
-        if tokens.eat(Kind::Open) {
+        if tokens.eat(Terminal::Open) {
             self.call(tokens, first, &start)
         } else {
             self.refer(tokens, first, &start)
@@ -284,14 +284,14 @@ impl<F: Fn(Global, &mut Cursor<'_>, usize) -> Result<Expr, Fault>> Grammar<F> {
         ensures { Gives (spec.prim self.now.depth (spec.expr self.now.depth) tokens.old) result tokens.new }
     {
         match tokens.peek() {
-            Kind::Integer => self.integer(tokens),
-            Kind::Real => self.real(tokens),
-            Kind::Str => self.string(tokens),
-            Kind::True => self.true_word(tokens),
-            Kind::False => self.false_word(tokens),
-            Kind::Open => self.paren(tokens),
-            Kind::OpenBrace => self.array(tokens),
-            Kind::Identifier => self.named(tokens),
+            Terminal::Integer => self.integer(tokens),
+            Terminal::Real => self.real(tokens),
+            Terminal::Str => self.string(tokens),
+            Terminal::True => self.true_word(tokens),
+            Terminal::False => self.false_word(tokens),
+            Terminal::Open => self.paren(tokens),
+            Terminal::OpenBrace => self.array(tokens),
+            Terminal::Identifier => self.named(tokens),
             _ => Err(Fault::Syntax),
         }
     }
@@ -402,7 +402,7 @@ impl<F: Fn(Global, &mut Cursor<'_>, usize) -> Result<Expr, Fault>> Grammar<F> {
         ensures { Gives (spec.lnot self.now.depth (spec.expr self.now.depth) tokens.old) result tokens.new }
     {
         let start = tokens.here();
-        if !tokens.eat(Kind::Not) {
+        if !tokens.eat(Terminal::Not) {
             return self.rel(tokens);
         }
         let inner = self.rel(tokens)?;
@@ -482,10 +482,10 @@ impl<F: Fn(Global, &mut Cursor<'_>, usize) -> Result<Expr, Fault>> Grammar<F> {
         ensures { Gives (spec.otherwise_by self.now.depth (spec.expr self.now.depth) (spec.otherwise self.now.depth (spec.expr self.now.depth) turns) tokens.old) result tokens.new }
     {
         let start = tokens.here();
-        if tokens.eat(Kind::ElseIf) {
+        if tokens.eat(Terminal::ElseIf) {
             return self.choice(tokens, turns, &start);
         }
-        tokens.expect(Kind::Else)?;
+        tokens.expect(Terminal::Else)?;
         self.whole(tokens)
     }
 
@@ -502,7 +502,7 @@ impl<F: Fn(Global, &mut Cursor<'_>, usize) -> Result<Expr, Fault>> Grammar<F> {
         ensures { Gives (spec.choice self.now.depth (spec.expr self.now.depth) (spec.otherwise self.now.depth (spec.expr self.now.depth) turns) start.now tokens.old) result tokens.new }
     {
         let condition = self.whole(tokens)?;
-        tokens.expect(Kind::Then)?;
+        tokens.expect(Terminal::Then)?;
         let holds = self.whole(tokens)?;
         let fails = self.otherwise(tokens, turns)?;
         self.if_node(tokens, condition, holds, fails, start)
@@ -515,7 +515,7 @@ impl<F: Fn(Global, &mut Cursor<'_>, usize) -> Result<Expr, Fault>> Grammar<F> {
         ensures { Gives (spec.conditional self.now.depth (spec.expr self.now.depth) tokens.old) result tokens.new }
     {
         let start = tokens.here();
-        if tokens.eat(Kind::If) {
+        if tokens.eat(Terminal::If) {
             self.choice(tokens, self.depth, &start)
         } else {
             self.lor(tokens)

@@ -14,6 +14,7 @@ mod declaration;
 mod expression;
 mod file;
 mod law;
+mod statement;
 
 use crate::closed::ClosedFile;
 use crate::cursor::{Cursor, Fault};
