@@ -8,8 +8,8 @@ use Rattle.cdl_classes.specs.declared.found.Found.{Found}
 use Rattle.cdl_classes.specs.declared.found.Found.TheVariants as it
 use Rattle.cdl_classes.specs.declared.found.ValueFound.{ValueFound}
 use Rattle.cdl_classes.specs.declared.found.ValueFound.TheVariants as value
-use Rattle.cdl_classes.specs.Classes.{Full}
-use Rattle.cdl_classes.specs.Lookup.{Entity, a_class, a_package, in_cdl, in_modelica, a_type, a_constant, a_literal}
+use Rattle.cdl_scopes.specs.Classes.{Full}
+use Rattle.cdl_scopes.specs.Lookup.{Entity, a_class, a_package, in_cdl, in_modelica, a_type, a_constant, a_literal}
 
 -- identifiers, each with a point before it
 abbrev pub pointed : Full → List ℕ

@@ -1,6 +1,6 @@
 // What is found, as callers see it.
 ghost use Rattle.std.specs.Prelude.{◌≡◌, ◌≤◌, ◌<◌, ◌++◌, ◌∷◌, [], List, ℕ, Option, IfSome, IfNone, length, map, true, false, ◌+◌};
-ghost use Rattle.cdl_classes.specs.Classes.{text_of};
+ghost use Rattle.cdl_scopes.specs.Classes.{text_of};
 ghost use Rattle.cdl_classes.specs.Found as spec;
 ghost use Rattle.cdl_kinds.specs.Names.{kinds, found as kind_found};
 

@@ -1,6 +1,6 @@
 // The block that is run.
 ghost use Rattle.std.specs.Prelude.{◌≡◌, ◌≤◌, ◌<◌, IfOk, IfErr, length};
-ghost use Rattle.cdl_classes.specs.Classes.{declared};
+ghost use Rattle.cdl_scopes.specs.Classes.{declared};
 ghost use Rattle.cdl_command.specs.Roots as spec;
 ghost use Rattle.cdl_command.specs.inner.Reads.{AreShort};
 ghost use Rattle.cdl_command.specs.inner.Stops.{Stops, StopsAtClasses, HasRoot, HasFlat, RefusesBlock, refusal_in};

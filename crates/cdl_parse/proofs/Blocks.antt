@@ -7,16 +7,16 @@ use Rattle.cdl_tree.specs.declared.class.Item.{Item}
 use Rattle.cdl_tree.specs.Words.{Lexeme, Word, same_terminal}
 use Rattle.cdl_tree.specs.Trees.{the_ident}
 use Rattle.cdl_tree.specs.Grammar.{ClauseOf, Tail, is_section, BlockParts, no_block_part, block_section, block_note, block_clause, LiteralOf, literal as a_literal, Literals, one_literal, more_literals}
-use Rattle.cdl_parse.specs.Reading.{Parser, Outcome, and_then, pure, terminal}
-use Rattle.cdl_parse.specs.Declarations.{note_clause as read_note, clause as read_clause}
+use Rattle.cdl_reading.specs.Reading.{Parser, Outcome, and_then, pure, terminal}
+use Rattle.cdl_clauses.specs.Declarations.{note_clause as read_note, clause as read_clause}
 use Rattle.cdl_parse.specs.Classes as spec
-use Rattle.cdl_parse.proofs.Steps.{Then, both, Is, is}
-use Rattle.cdl_parse.proofs.Laws.{member, within_self, Law, shaped, like, begun_law, pure_law, then_law, Or, this, that, either_law, flagged, Token, a_token, token_by, Reader, token_law, token_of}
-use Rattle.cdl_parse.proofs.Repeats.{Repeats, stop, snoc, fold, Loop, repeat_law, Row, row_one, row_more, row_in, list_law, Behind}
-use Rattle.cdl_parse.proofs.Sets.{after_tail, after_condition}
-use Rattle.cdl_parse.proofs.ExprLaws.{IdentOf, an_ident, ident_law}
-use Rattle.cdl_parse.proofs.Notes.{wanted, tail_law, NoteClause, note_clause, note_clause_law, note_some}
-use Rattle.cdl_parse.proofs.Decls.{clause_law, clause_some}
+use Rattle.cdl_reading.proofs.Steps.{Then, both, Is, is}
+use Rattle.cdl_reading.proofs.Laws.{member, within_self, Law, shaped, like, begun_law, pure_law, then_law, Or, this, that, either_law, flagged, Token, a_token, token_by, Reader, token_law, token_of}
+use Rattle.cdl_reading.proofs.Repeats.{Repeats, stop, snoc, fold, Loop, repeat_law, Row, row_one, row_more, row_in, list_law, Behind}
+use Rattle.cdl_expressions.proofs.Sets.{after_tail, after_condition}
+use Rattle.cdl_expressions.proofs.ExprLaws.{IdentOf, an_ident, ident_law}
+use Rattle.cdl_clauses.proofs.Notes.{wanted, tail_law, NoteClause, note_clause, note_clause_law, note_some}
+use Rattle.cdl_clauses.proofs.Decls.{clause_law, clause_some}
 
 pub apart : {A : Type 0} (b : Bool) (x y : Parser A) (z : Outcome A) (i : Word) → y i ≡ z → (if b then x else y) i ≡ (if b then x i else z)
 apart true x y z i e = refl

@@ -13,10 +13,11 @@ use Rattle.cdl_parse.specs.declared.closed.ClosedClass.{ClosedClass}
 use Rattle.cdl_parse.specs.declared.closed.ClosedFile.{ClosedFile}
 use Rattle.cdl_parse.specs.declared.closed.FileParts.{FileParts}
 use Rattle.cdl_parse.specs.declared.closed.PackageParts.{PackageParts}
-use Rattle.cdl_parse.specs.Reading.{Parser, ◌>>=◌, ◌>>◌, pure, refuse, terminal, next, peek, here, eat, expect, expect_end, ident, made, list}
-use Rattle.cdl_parse.specs.Expressions.{name}
-use Rattle.cdl_parse.specs.Declarations.{text_of, tail, note_clause, clause, constant}
-use Rattle.cdl_parse.specs.Statements.{equation_part}
+use Rattle.cdl_reading.specs.Reading.{Parser, ◌>>=◌, ◌>>◌, pure, refuse, terminal, next, peek, here, eat, expect, expect_end, ident, made, list}
+use Rattle.cdl_expressions.specs.Expressions.{name}
+use Rattle.cdl_expressions.specs.Arguments.{text_of}
+use Rattle.cdl_clauses.specs.Declarations.{tail, note_clause, clause, constant}
+use Rattle.cdl_clauses.specs.Statements.{equation_part}
 
 -- "public" or "protected"
 unfoldable pub section : Parser (Unit {0})

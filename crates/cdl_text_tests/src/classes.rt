@@ -1,7 +1,7 @@
 // Texts, the rules on classes that they break, and what names mean in them. The expected answers were worked out apart from the
 // program.
 ghost use Rattle.std.specs.Prelude.{◌<◌, length};
-ghost use Rattle.cdl_classes.specs.Classes.{declared};
+ghost use Rattle.cdl_scopes.specs.Classes.{declared};
 
 use cdl_classes::{ClassFault, ClassId, ClassTable, Found, ValueFound};
 use cdl_kinds::{ValueType, find};

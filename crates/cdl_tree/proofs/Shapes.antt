@@ -48,7 +48,7 @@ both true true e f = refl
 both true false e f = f
 both false b e f = e
 
-split : (a b : Bool) → (a && b) ≡ true → (a ≡ true) × (b ≡ true)
+pub split : (a b : Bool) → (a && b) ≡ true → (a ≡ true) × (b ≡ true)
 split true b e = (refl, e)
 split false b e = absurd (cc)
 

@@ -4,6 +4,7 @@
 mod class;
 mod copy;
 mod expr;
+mod law;
 mod literal;
 mod name;
 mod terminal;
@@ -13,6 +14,7 @@ pub use class::{
     Sub,
 };
 pub use expr::{Expr, Node, Op};
+pub use law::formed_is_proper;
 pub use literal::{integer, string};
 pub use name::{Ident, Name};
 pub use terminal::{Terminal, terminal_of};
