@@ -1,0 +1,7 @@
+pub mod Sets
+pub mod ExprLaws
+mod Groups
+mod Prims
+pub mod Operators
+pub mod Texts
+pub mod Args
