@@ -5,3 +5,5 @@ mod Prims
 pub mod Operators
 pub mod Texts
 pub mod Args
+pub mod Meant
+pub mod Formed
