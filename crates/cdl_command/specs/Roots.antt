@@ -14,8 +14,7 @@ use Rattle.cdl_classes.specs.Table.{block_of as block_named}
 use Rattle.cdl_scopes.specs.Classes.{cut}
 use Rattle.cdl_classes.specs.Verdict.{IsUnbroken}
 use Rattle.cdl_flat.specs.Blocks.{Block, block_of}
-use Rattle.cdl_flat.specs.Flat.{IsFlatBlock}
-use Rattle.cdl_flat.specs.Statements.{connects_in}
+use Rattle.cdl_flat.specs.Flat.{IsFlatBlock, connects_in}
 use Rattle.cdl_flat.specs.declared.part.Part.{Part}
 use Rattle.cdl_flat.specs.declared.part.Part.TheVariants as part
 

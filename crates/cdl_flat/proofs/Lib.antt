@@ -7,6 +7,6 @@ pub mod JoinSteps
 pub mod NetFacts
 pub mod Equations
 pub mod JoinFacts
-pub mod Loopless
+pub mod Statements
 pub mod FlatLaw
 pub mod Ticks

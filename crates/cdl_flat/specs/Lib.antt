@@ -1,6 +1,5 @@
 pub mod Lists
 pub mod PlainKinds
-pub mod Statements
 pub mod Blocks
 pub mod Names
 pub mod Ends

@@ -1,8 +1,7 @@
 // Flat blocks.
 ghost use Rattle.std.specs.Prelude.{◌≡◌, ◌<◌, length, IfOk, IfSome, IsSome, slice_get, Some};
 ghost use Rattle.cdl_flat.specs.Blocks.{block_of};
-ghost use Rattle.cdl_flat.specs.Flat.{IsFlatBlock};
-ghost use Rattle.cdl_flat.specs.Statements.{connects_in};
+ghost use Rattle.cdl_flat.specs.Flat.{IsFlatBlock, connects_in};
 ghost use Rattle.cdl_flat.specs.NetBlocks.{net_block};
 ghost use Rattle.cdl_flat.specs.Nets.{IsReady};
 ghost use Rattle.cdl_flat.specs.declared.part.Component.{Component};
@@ -47,7 +46,7 @@ impl<'t> Model for Flat<'t> {
 
 impl<'t> Flat<'t> {
     /// The flat block of these items, each of which is the part of that number, and of these statements. None comes exactly
-    /// where they break a rule of flat blocks, as each loop does. The memory taken is linear in them.
+    /// where they break a rule of flat blocks. The memory taken is linear in them.
     pub fn of(
         alloc: Global,
         items: &[Item],

@@ -17,7 +17,7 @@ ghost use Rattle.cdl_scopes.specs.declared.lookup.ClassSort.TheVariants as sort;
 use crate::gather::{Class, Classes};
 use crate::names::{Node, TOP};
 use crate::scopes::Outwards;
-use cdl_kinds::ValueType;
+use cdl_values::ValueType;
 use cdl_tree::{ClassTree, FileTree, Ident};
 
 /// What a declared class is.
