@@ -1,5 +1,5 @@
 -- The laws of connect statements.
-use Rattle.std.proofs.Common.{◌≡◌, ℕ, suc, ◌<◌, Bool, true, false, List, [], ◌∷◌, ◌++◌, length, refl, sym, ap, ◌∙◌, subst, arith, if◌then◌else◌, append_assoc, append-nil}
+use Rattle.std.proofs.Common.{◌≡◌, ℕ, suc, ◌<◌, List, [], ◌∷◌, ◌++◌, length, refl, sym, ap, ◌∙◌, subst, arith, if◌then◌else◌, append_assoc, append-nil}
 use Rattle.cdl_tree.specs.declared.terminal.Terminal.{Terminal}
 use Rattle.cdl_tree.specs.declared.terminal.Terminal.TheVariants as the
 use Rattle.cdl_tree.specs.declared.expr.Expr.{Expr}
@@ -10,7 +10,7 @@ use Rattle.cdl_tree.specs.declared.class.Connect.{Connect}
 use Rattle.cdl_tree.specs.Words.{Lexeme, Word, same_terminal}
 use Rattle.cdl_tree.specs.Trees.{the_ident, the_part, the_ref, the_connect}
 use Rattle.cdl_tree.specs.Grammar.{ExprOf, Tail, SubOf, all_places, one_place, places, SubList, one_sub, more_subs, Subs, no_sub, subs as some_subs, PartOf, part as a_part, RefOf, one_part, more_parts, ConnectOf, connect as a_connect}
-use Rattle.cdl_reading.specs.Reading.{Parser, and_then, pure, terminal, sees, after}
+use Rattle.cdl_reading.specs.Reading.{and_then, pure, sees, after}
 use Rattle.cdl_clauses.specs.Declarations as spec
 use Rattle.cdl_expressions.specs.Expressions.{expr as spec_expr}
 use Rattle.cdl_reading.proofs.Steps.{Then, both, Is, is, Made, is_made}

@@ -1,15 +1,15 @@
 -- The laws of annotations.
-use Rattle.std.proofs.Common.{◌≡◌, ℕ, zero, suc, ◌≤◌, ◌<◌, Bool, true, false, not, List, [], ◌∷◌, ◌++◌, length, Option, Some, None, Ok, Err, refl, sym, ap, ◌∙◌, subst, arith, if◌then◌else◌, append_assoc, append-nil, length-append}
+use Rattle.std.proofs.Common.{◌≡◌, ℕ, zero, suc, ◌≤◌, ◌<◌, Bool, true, false, List, [], ◌∷◌, ◌++◌, length, Option, Some, None, Ok, Err, refl, sym, ap, ◌∙◌, subst, arith, if◌then◌else◌, append_assoc, length-append}
 use Rattle.cdl_tree.specs.declared.terminal.Terminal.{Terminal}
 use Rattle.cdl_tree.specs.declared.terminal.Terminal.TheVariants as the
 use Rattle.cdl_tree.specs.Words.{Lexeme, Word, same_terminal}
 use Rattle.cdl_tree.specs.Grammar.{partner, is_plain, Balanced, nothing, other, enclosed, Note, note as a_note_of, no_note, a_note, Tail, tail as a_tail}
-use Rattle.cdl_reading.specs.Reading.{Parser, Outcome, and_then, pure, terminal, next, sees, after, expect}
+use Rattle.cdl_reading.specs.Reading.{Parser, Outcome, and_then, pure, terminal, sees, expect}
 use Rattle.cdl_clauses.specs.Declarations as spec
 use Rattle.cdl_reading.proofs.Steps.{Then, both, Is, is, weakened, pure_reads}
 use Rattle.cdl_reading.proofs.Alike.{none_left}
-use Rattle.cdl_reading.proofs.Laws.{member, each, within_self, each_at, member_left, member_right, is_none, none_is, Law, wider, shaped, like, pure_law, Token, a_token, token_by, Reader, token_law, then_law, Or, this, that, either_law, Chosen, found, missing, chosen_by, chosen_law, flagged, only, only_is, is_only, eaten_law, One, token_of, expect_law, word_then, same_read}
-use Rattle.cdl_reading.proofs.Repeats.{Repeats, stop, go, snoc, Loop, repeat_law}
+use Rattle.cdl_reading.proofs.Laws.{member, within_self, each_at, member_left, member_right, is_none, none_is, Law, shaped, like, pure_law, Token, a_token, token_by, Reader, token_law, then_law, Or, this, that, either_law, Chosen, found, missing, chosen_by, chosen_law, flagged, only, only_is, is_only, One, token_of, expect_law, word_then, same_read}
+use Rattle.cdl_reading.proofs.Repeats.{Repeats, stop, go, Loop, repeat_law}
 use Rattle.cdl_expressions.proofs.Texts.{AnyText, text_law}
 use Rattle.cdl_expressions.proofs.Sets.{closers, after_tail, after_condition, plains, openers, balanceds}
 

@@ -14,7 +14,7 @@ use Rattle.cdl_reading.specs.Reading.{Parser, and_then, pure, terminal, sees}
 use Rattle.cdl_clauses.specs.Statements as spec
 use Rattle.cdl_clauses.specs.Statements.{the_head}
 use Rattle.cdl_reading.proofs.Steps.{Then, both, Is, is, Made, is_made}
-use Rattle.cdl_reading.proofs.Laws.{member, within_self, Law, shaped, fewer_law, begun_law, pure_law, made_law, then_law, then_less, Or, this, that, either_law, Chosen, found, missing, only, only_is, is_only, eaten_law, One, a_token, token_of, word_then, word_less, same_read, refused_law}
+use Rattle.cdl_reading.proofs.Laws.{member, within_self, Law, shaped, begun_law, pure_law, made_law, then_law, then_less, Or, this, that, either_law, Chosen, found, missing, only, only_is, is_only, eaten_law, One, a_token, token_of, word_then, word_less, same_read, refused_law}
 use Rattle.cdl_reading.proofs.Repeats.{Repeats, stop, snoc, fold, Loop, repeat_law, is_then, then_assoc}
 use Rattle.cdl_expressions.proofs.Sets.{after_expr}
 use Rattle.cdl_expressions.proofs.ExprLaws.{IdentOf, an_ident, ident_law}
@@ -118,7 +118,7 @@ loop_goes t _ x (both (a_head f i n c o {u = u} {v = v} {l = l} {h = h} hf hi hn
     (loop f i n c o e g s hf hi hn hl hc hh ho hb (only_is the.End e.terminal a1 he) (only_is the.For g.terminal a2 hg) (only_is the.Semicolon s.terminal a3 hs)))
 
 loop_comes : (t w : Word) (x : Turns) → LoopOf w x → LoopR t w x
-loop_comes t _ _ (loop f i n c o e g s {u} {v} {w} {l} {h} {xs} hf hi hn hl hc hh ho hb he hg hs) =
+loop_comes t _ _ (loop f i n c o e g s {u = u} {v = v} {w = w} {l = l} {h = h} {body = xs} hf hi hn hl hc hh ho hb he hg hs) =
     subst (λ z. LoopR t z (the_loop (the_ident i) l h xs (f ∷ i ∷ n ∷ (u ++ c ∷ (v ++ o ∷ (w ++ e ∷ g ∷ s ∷ [])))))) (loop_shape f i n c o e g s u v w)
     (both (a_head f i n c o hf hi hn hl hc hh ho) (both hb (both (a_token e (is_only the.End e.terminal he)) (both (a_token g (is_only the.For g.terminal hg)) (both (a_token s (is_only the.Semicolon s.terminal hs))
     (is_made (ap (the_loop (the_ident i) l h xs) (sym (loop_word f i n c o e g s u v w)))))))))

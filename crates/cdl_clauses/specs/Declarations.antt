@@ -1,8 +1,7 @@
 -- The parser of annotations, declarations and connect statements, as a function.
-use Rattle.std.specs.Prelude.{ℕ, zero, suc, Bool, true, false, if◌then◌else◌, List, [], ◌∷◌, ◌++◌, Option, Some, None, Ok, Err}
+use Rattle.std.specs.Prelude.{ℕ, zero, suc, Bool, true, false, if◌then◌else◌, List, [], Option, Some, None, Ok, Err}
 use Rattle.cdl_tree.specs.declared.terminal.Terminal.{Terminal}
 use Rattle.cdl_tree.specs.declared.terminal.Terminal.TheVariants as the
-use Rattle.cdl_tree.specs.declared.expr.Expr.{Expr}
 use Rattle.cdl_tree.specs.declared.class.Prefix.{Prefix}
 use Rattle.cdl_tree.specs.declared.class.Prefix.TheVariants as prefix
 use Rattle.cdl_tree.specs.declared.class.Dim.{Dim}
@@ -14,7 +13,7 @@ use Rattle.cdl_tree.specs.declared.class.Sub.TheVariants as sub
 use Rattle.cdl_tree.specs.declared.class.Connect.{Connect}
 use Rattle.cdl_tree.specs.Grammar.{partner, is_plain, the_head}
 use Rattle.cdl_tree.specs.Trees.{listed, Head, the_item, the_part, the_ref, the_connect}
-use Rattle.cdl_reading.specs.Reading.{Parser, ◌>>=◌, ◌>>◌, pure, refuse, terminal, next, peek, here, skip, ahead, eat, expect, ident, made, list}
+use Rattle.cdl_reading.specs.Reading.{Parser, ◌>>=◌, ◌>>◌, pure, terminal, next, peek, here, skip, ahead, eat, expect, ident, made, list}
 use Rattle.cdl_expressions.specs.Expressions.{name, expr}
 use Rattle.cdl_expressions.specs.Arguments.{text_of, optional, optional_args, args}
 

@@ -2,11 +2,11 @@
 ghost use Rattle.cdl_reading.specs.Gives.{Gives};
 ghost use Rattle.cdl_clauses.specs.Declarations as spec;
 
-use cdl_reading::{Cursor, Fault};
 use crate::declaration::tail;
 use cdl_expressions::expr;
+use cdl_reading::{Cursor, Fault};
 use cdl_source::List;
-use cdl_tree::{Connect, Terminal, Part, Ref, Sub};
+use cdl_tree::{Connect, Part, Ref, Sub, Terminal};
 use std::alloc::Global;
 
 // sub = ":" | expr [ ":" expr ]
@@ -80,11 +80,7 @@ fn reference(alloc: Global, tokens: &mut Cursor<'_>, most: usize) -> Result<List
 
 /// `connect = "connect" "(" ref "," ref ")" tail ";"`
 #[tactic(auto, unfolding(crate::specs::Declarations::connect, cdl_reading::specs::Reading::made, cdl_tree::specs::Trees::the_connect))]
-pub(crate) fn connect(
-    alloc: Global,
-    tokens: &mut Cursor<'_>,
-    most: usize,
-) -> Result<Connect, Fault>
+pub(crate) fn connect(alloc: Global, tokens: &mut Cursor<'_>, most: usize) -> Result<Connect, Fault>
     ensures { Gives (spec.connect most tokens.old) result tokens.new }
 {
     let start = tokens.here();

@@ -5,10 +5,10 @@ ghost use Rattle.cdl_tree.specs.Trees as trees;
 ghost use Rattle.cdl_reading.specs.Gives.{Gives};
 ghost use Rattle.cdl_clauses.specs.Declarations as spec;
 
-use cdl_reading::{Cursor, Fault};
 use cdl_expressions::{expr, name, optional, optional_args, text};
+use cdl_reading::{Cursor, Fault};
 use cdl_source::List;
-use cdl_tree::{Dim, Item, Terminal, Modifier, Name, Prefix};
+use cdl_tree::{Dim, Item, Modifier, Name, Prefix, Terminal};
 use std::alloc::Global;
 
 // What closes a bracket.
@@ -55,7 +55,8 @@ fn begins_balanced(terminal: Terminal) -> bool
     ensures { result ≡ spec.begins_balanced terminal }
 {
     match terminal {
-        Terminal::Close | Terminal::CloseBracket | Terminal::CloseBrace | Terminal::Nothing => false,
+        Terminal::Close | Terminal::CloseBracket | Terminal::CloseBrace | Terminal::Nothing =>
+            false,
         _ => true,
     }
 }

@@ -191,7 +191,7 @@ class_in s w c (that (this h)) = package_in s w c h
 class_in s w c (that (that h)) = type_in s w c h
 
 class_out : (s : Word) {w : Word} {t : ClassTree} {ends : List Closing} → ClassOf w t ends → ClassR s w (closed_class t (first_wrong ends))
-class_out s (a_block b n e m {u} {v} {w} {xs} {cs} hb hn hu hv hw he hm) =
+class_out s (a_block b n e m {u} {v} {w} {xs} {ss = cs} hb hn hu hv hw he hm) =
     this (both (a_token b (is_only the.Block b.terminal hb)) (both (an_ident n hn) (both {a = tt} hu (both hv (both hw (both (a_token e (is_only the.End e.terminal he)) (both (an_ident m hm) (is_made
     (ap (closed_class (the_block (the_ident n) xs cs (b ∷ n ∷ (u ++ (v ++ (w ++ e ∷ m ∷ [])))))) (or_none (wrong_end (the_ident n) (the_ident m)))
     ∙ ap (block_value (the_ident n) xs cs (the_ident m)) (sym (block_word b n e m u v w)))))))))))

@@ -5,9 +5,9 @@ ghost use Rattle.cdl_reading.specs.Gives.{Gives, Nests};
 ghost use Rattle.cdl_parse.specs.Classes as spec;
 
 use crate::closed::{ClosedClass, FileParts, PackageParts};
-use cdl_reading::{Cursor, Fault};
 use cdl_clauses::{clause, constant, equation_part, note_clause, tail};
 use cdl_expressions::text;
+use cdl_reading::{Cursor, Fault};
 use cdl_source::List;
 use cdl_tree::{ClassTree, Ident, Item, Terminal};
 use std::alloc::Global;

@@ -5,10 +5,10 @@ ghost use Rattle.cdl_parse.specs.Classes as spec;
 
 use crate::class::file_class;
 use crate::closed::{ClosedFile, FileParts};
-use cdl_reading::{Cursor, Fault};
 use cdl_expressions::name;
+use cdl_reading::{Cursor, Fault};
 use cdl_source::List;
-use cdl_tree::{FileTree, Terminal, Name};
+use cdl_tree::{FileTree, Name, Terminal};
 use std::alloc::Global;
 
 // [ name ] ";"

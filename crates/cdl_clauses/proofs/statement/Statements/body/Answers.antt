@@ -14,9 +14,9 @@ returns-then-not-begins_statement g c =
     let e = one_more (λ n. body_from c.args.self.now.depth (statement c.args.self.now.depth) n c.loop-turn.found c.loop-turn.tokens) _ c.loop-turn._turn c.loop-turn-test.true c.loop-turn.invariant in
     first_of (search rules, grind (arith, common_steps))
 
-pub returns-in_err-found : goal.returns-in_err-found
+pub returns-in_err-whole : goal.returns-in_err-whole
 unfolding body_from
-returns-in_err-found g c =
+returns-in_err-whole g c =
     let e = one_more (λ n. body_from c.args.self.now.depth (statement c.args.self.now.depth) n c.loop-turn.found c.loop-turn.tokens) _ c.loop-turn._turn c.loop-turn-test.true c.loop-turn.invariant in
     first_of (search rules, grind (arith, common_steps))
 
