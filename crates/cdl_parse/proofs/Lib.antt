@@ -1,6 +1,3 @@
-pub mod Notes
-pub mod Decls
-pub mod Connects
 pub mod Ends
 pub mod Blocks
 pub mod ClassLaws

@@ -9,13 +9,10 @@ ghost use Rattle.cdl_parse.specs.Verdict.{Closes, IsTree, IsRefused, begin_of};
 
 mod class;
 mod closed;
-mod connection;
-mod declaration;
 mod file;
 mod law;
 
 use crate::closed::ClosedFile;
-use cdl_reading::{Cursor, Fault};
 use crate::file::whole_file;
 use cdl_lex::Tokens;
 use cdl_reading::{Cursor, Fault};
