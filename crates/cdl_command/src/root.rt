@@ -107,7 +107,7 @@ pub(crate) fn flat_of(alloc: Global, root: &Root) -> Result<Flat<'_>, Stop>
 {
     let tree = root.classes.tree(root.id);
     let parts = parts_of(alloc, &root.classes, root.id, tree.items())?;
-    match Flat::of(alloc, tree.items(), parts.as_slice(), tree.connects())? {
+    match Flat::of(alloc, tree.items(), parts.as_slice(), tree.statements())? {
         Some(flat) => Ok(flat),
         None => Err(refused_root(alloc, NOT_BUILT)),
     }

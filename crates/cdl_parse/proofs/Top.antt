@@ -10,14 +10,15 @@ use Rattle.cdl_lex.specs.TokenList.{TokenList}
 use Rattle.cdl_tree.specs.declared.class.FileTree.{FileTree}
 use Rattle.cdl_tree.specs.declared.class.Closing.{Closing}
 use Rattle.cdl_tree.specs.Words.{Word}
-use Rattle.cdl_tree.specs.Terminals.{terminal}
+use Rattle.cdl_tree.specs.Terminals.{lexeme}
 use Rattle.cdl_tree.specs.Grammar.{IsClosed, Sentence, Longest}
 use Rattle.cdl_parse.specs.declared.closed.ClosedFile.{ClosedFile}
-use Rattle.cdl_parse.specs.Reading.{Outcome, and_then, pure, expect_end}
+use Rattle.cdl_reading.specs.Reading.{Outcome, and_then, pure, expect_end}
 use Rattle.cdl_parse.specs.Classes.{wrong_end, or_then, file, whole_file}
-use Rattle.cdl_parse.specs.Verdict.{word_of, AllClosed, Closes, begin_of, Stuck, Misnamed}
-use Rattle.cdl_parse.proofs.Steps.{Shape}
-use Rattle.cdl_parse.proofs.Alike.{same_pair}
+use Rattle.cdl_reading.specs.Reading.{word_of}
+use Rattle.cdl_parse.specs.Verdict.{AllClosed, Closes, begin_of, Stuck, Misnamed}
+use Rattle.cdl_reading.proofs.Steps.{Shape}
+use Rattle.cdl_reading.proofs.Alike.{same_pair}
 use Rattle.cdl_parse.proofs.Ends.{first_wrong}
 use Rattle.cdl_parse.proofs.FileLaws.{FileIs, AnyFile, file_law}
 use Rattle.cdl_parse.proofs.Longest.{closed_file, is_file, read_file, fault_place}
@@ -117,7 +118,7 @@ misnamed_law tokens j x at e some =
 pub place_law : (tokens : TokenList) (j : Word) (n : ℕ) → whole_file (length (word_of tokens)) (word_of tokens) ≡ Err j → n ≡ length tokens.items - length j
     → Stuck tokens (record { file = tokens.file; byte = begin_of tokens.bytes tokens.items n })
 place_law tokens j n e count =
-    let all : length (word_of tokens) ≡ length tokens.items = length-map tokens.items (terminal tokens.bytes) in
+    let all : length (word_of tokens) ≡ length tokens.items = length-map tokens.items (lexeme tokens.bytes) in
     let at : n ≡ length (word_of tokens) - length j = omega (arith, all, count) in
     record {
       no_sentence = stuck_law (word_of tokens) j e;
@@ -130,7 +131,7 @@ place_law tokens j n e count =
 pub at_tokens : (tokens : TokenList) (most : ℕ) (i : Word) (r : Outcome ClosedFile) → most ≡ length tokens.items → i ≡ word_of tokens → whole_file most i ≡ r
     → whole_file (length (word_of tokens)) (word_of tokens) ≡ r
 at_tokens tokens most i r few all e =
-    let count : length (word_of tokens) ≡ most = length-map tokens.items (terminal tokens.bytes) ∙ sym few in
+    let count : length (word_of tokens) ≡ most = length-map tokens.items (lexeme tokens.bytes) ∙ sym few in
     ap (λ n. whole_file n (word_of tokens)) count ∙ ap (whole_file most) (sym all) ∙ e
 
 pub begin_at : (bytes : List ℕ) (ts : List Token) (n : ℕ) (t : Token) → slice_get ts n ≡ Some t → t.span.start ≡ begin_of bytes ts n

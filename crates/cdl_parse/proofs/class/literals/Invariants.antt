@@ -1,8 +1,8 @@
 use Rattle.std.proofs.Common.{◌≡◌, ◌-◌}
-use Rattle.cdl_tree.specs.declared.kind.Kind.TheVariants as k
-use Rattle.cdl_parse.specs.Reading.{list_from}
+use Rattle.cdl_tree.specs.declared.terminal.Terminal.TheVariants as the
+use Rattle.cdl_reading.specs.Reading.{list_from}
 use Rattle.cdl_parse.specs.Classes.{literal_of, literal_list}
 use Rattle.cdl_parse.proofs.class.literals.Given as goal
 
 abbrev pub invariant-loop-turn : goal.invariant-loop-turn
-invariant-loop-turn l = literal_list l.fn.most l.fn.tokens ≡ list_from k.Comma (literal_of l.fn.most) (l.fn.most - l._turn) l.found l.tokens
+invariant-loop-turn l = literal_list l.fn.most l.fn.tokens ≡ list_from the.Comma (literal_of l.fn.most) (l.fn.most - l._turn) l.found l.tokens

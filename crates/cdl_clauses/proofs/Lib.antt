@@ -1,0 +1,4 @@
+pub mod Notes
+pub mod Decls
+mod Connects
+pub mod Statements
