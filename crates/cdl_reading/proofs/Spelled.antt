@@ -114,7 +114,7 @@ spelled_by bytes t _ _ u within e (pair c d h) fits = symbol_spelled (c ∷ d �
 each_spelled : (bytes : Bytes) (ts : List Token) → IsUtf8 bytes → LieWithin bytes ts → AreSpelled bytes ts → FitLimits bytes ts → are_spelled (lexemes bytes ts) ≡ true
 each_spelled bytes [] u within spelled fits = refl
 each_spelled bytes (t ∷ ts) u within spelled fits =
-    both _ _ (spelled_by bytes t (text_of bytes t) t.value_type u (within 0 t (omega arith)) refl (spelled 0 t (omega arith)) (fits 0 t (omega arith)))
+    both _ _ (spelled_by bytes t (text_of bytes t) t.sort u (within 0 t (omega arith)) refl (spelled 0 t (omega arith)) (fits 0 t (omega arith)))
     (each_spelled bytes ts u (λ k d less. within (suc k) d (omega (arith, less))) (λ k d less. spelled (suc k) d (omega (arith, less))) (λ k d less. fits (suc k) d (omega (arith, less))))
 
 pub words_spelled : (w : TokenList) → AreTokens w.bytes w.items → are_spelled (word_of w) ≡ true

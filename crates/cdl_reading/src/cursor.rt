@@ -89,7 +89,7 @@ impl<'a> Cursor<'a> {
             return Terminal::Nothing;
         }
         let token = self.tokens.token(self.at);
-        terminal_of(token.value_type, text_of(self.tokens, token))
+        terminal_of(token.sort, text_of(self.tokens, token))
     }
 
     /// The text of the next token, nothing behind the last one.
