@@ -182,5 +182,13 @@ mutual
 
   arg_counted : {w : Word} {m : Modifier} → ArgOf w m → names_of_modifier m ≤ length w
   arg_counted (arg {q} {r} {u} {v} {w} i {each} {is_final} {ms} {e} hq hr hi hu hv hw) =
-      omega (arith, modifier_has each is_final (the_ident i) ms e (q ++ (r ++ i ∷ (u ++ (v ++ w)))), optional_counted hu, value_counted hv,
-      length-append q (r ++ i ∷ (u ++ (v ++ w))), length-append r (i ∷ (u ++ (v ++ w))), length-append u (v ++ w), length-append v w)
+      omega (
+        arith,
+        modifier_has each is_final (the_ident i) ms e (q ++ (r ++ i ∷ (u ++ (v ++ w)))),
+        optional_counted hu,
+        value_counted hv,
+        length-append q (r ++ i ∷ (u ++ (v ++ w))),
+        length-append r (i ∷ (u ++ (v ++ w))),
+        length-append u (v ++ w),
+        length-append v w,
+      )

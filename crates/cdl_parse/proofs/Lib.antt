@@ -4,3 +4,5 @@ pub mod ClassLaws
 pub mod FileLaws
 pub mod Longest
 pub mod Top
+pub mod Formed
+pub mod Counted

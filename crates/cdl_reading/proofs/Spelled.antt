@@ -91,7 +91,7 @@ quoted_utf8 bytes start end b u order within e =
     let rest : drop start bytes ≡ (34 ∷ (b ++ 34 ∷ [])) ++ drop end bytes = drop_split bytes start end (omega arith) ∙ ap (λ z. z ++ drop end bytes) e in
     let shape : drop start bytes ≡ (34 ∷ b) ++ 34 ∷ drop end bytes = rest ∙ ap (λ z. 34 ∷ z) (append_assoc b (34 ∷ []) (drop end bytes)) in
     let count : length bytes - start ≡ length b + 2 + (length bytes - end) =
-        omega (arith, ap length shape, length-drop start bytes, length-drop end bytes, length-append (34 ∷ b) (34 ∷ drop end bytes)) in
+    omega (arith, ap length shape, length-drop start bytes, length-drop end bytes, length-append (34 ∷ b) (34 ∷ drop end bytes)) in
     let last : end ≡ start + suc (length b) + 1 = omega arith in
     let first_is : get_or bytes start 0 ≡ 34 = sym (ap (λ n. get_or bytes n 0) (add-zero start)) ∙ sym (get_or-drop start bytes 0 0) ∙ ap (λ z. get_or z 0 0) shape in
     let last_is : get_or bytes (start + suc (length b)) 0 ≡ 34 = sym (get_or-drop start bytes (suc (length b)) 0) ∙ ap (λ z. get_or z (suc (length b)) 0) shape ∙ get_or-append_seam (34 ∷ b) 34 (drop end bytes) 0 in

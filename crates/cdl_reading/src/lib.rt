@@ -2,5 +2,7 @@
 #![tactic(auto)]
 
 mod cursor;
+mod law;
 
 pub use cursor::{Cursor, Fault};
+pub use law::spelled_words;
