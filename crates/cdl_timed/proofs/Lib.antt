@@ -1,1 +1,4 @@
+pub mod SampleIntervals
+pub mod Sampling
+pub mod RunStates
 pub mod ValueStates

@@ -61,7 +61,8 @@ pub fn holds_booleans(words: &[i64]) -> bool
     is_boolean_at(words, 0) && is_boolean_at(words, 1)
 }
 
-fn is_boolean_at(words: &[i64], i: usize) -> bool
+/// Whether the word in that place is a Boolean.
+pub fn is_boolean_at(words: &[i64], i: usize) -> bool
     requires { i < length words.now }
     ensures { IsTrue result ↔ IsValue Boolean (word words.now i) }
 {
@@ -75,7 +76,8 @@ fn is_integer_at(words: &[i64], i: usize) -> bool
     is_integer(read(words, i))
 }
 
-fn is_real_at(words: &[i64], i: usize) -> bool
+/// Whether the word in that place is a Real.
+pub fn is_real_at(words: &[i64], i: usize) -> bool
     requires { i < length words.now }
     ensures { IsTrue result ↔ IsValue Real (word words.now i) }
 {

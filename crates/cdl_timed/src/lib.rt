@@ -2,3 +2,11 @@
 #![tactic(auto)]
 
 pub mod checks;
+mod delay;
+mod intervals;
+mod pulse;
+mod sampler;
+mod timer;
+mod times;
+mod triggered;
+mod unit_delay;
