@@ -12,3 +12,7 @@ pub record IsSum (sum last : ℤ) (u : Bool) : Type 0 where
 -- the sum at a tick, from the sum, the time and both inputs at the tick before
 abbrev pub sum_next : ℤ → ℤ → Bool → Bool → ℤ → List ℤ → ℤ
 sum_next sum last u reset now x = cond (is_on (word x 1) && not reset) (pos 0) (sum +ℤ cond u (elapsed last now) (pos 0))
+
+-- so much was added up in these words
+abbrev pub HasSum : List ℤ → Type 0
+HasSum s = (word s 1 ≡ negsuc 0 → (word s 0 ≡ pos 0) × (word s 2 ≡ pos 0)) × (pos 0 ≤ℤ word s 1 → (pos 0 ≤ℤ word s 0) × (word s 0 ≤ℤ (word s 1 *ℤ pos 1000)))
