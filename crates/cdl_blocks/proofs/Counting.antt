@@ -3,8 +3,8 @@ use Rattle.std.proofs.Common.{ℕ, ◌≡◌, ◌≤◌, ◌∙◌, ap, inl, inr
 use Rattle.std.specs.Prelude.{IsSome, MatchResult, OnErr, OnOk, pos, ◌+ℤ◌, unsigned_abs}
 use Rattle.std.proofs.lemmas.Int.{ints}
 use Rattle.std.proofs.lemmas.Bool.Decides.{nat_tests}
-use Rattle.cdl_kinds.specs.declared.value.ValueType.TheVariants.{Boolean, Integer}
-use Rattle.cdl_kinds.specs.History.{AreValues, History, IsValue, before, bit, integer, integers, is_on, rises, tick, typed, word}
+use Rattle.cdl_values.specs.declared.value.ValueType.TheVariants.{Boolean, Integer}
+use Rattle.cdl_values.specs.History.{AreValues, History, IsValue, before, bit, integer, integers, is_on, rises, tick, typed, word}
 use Rattle.cdl_kinds.specs.Meaning.Integers.{changes, counted, on_counter}
 use Rattle.cdl_kind_laws.proofs.TypedWords.{integer_typed}
 use Rattle.cdl_kind_laws.proofs.ValueWords.{bit_value, integer_fits, three_values}

@@ -1,6 +1,6 @@
 -- How a counter goes on.
 use Rattle.std.specs.Prelude.{ℤ, ◌+ℤ◌, Bool, cond, not, ◌&&◌, List}
-use Rattle.cdl_kinds.specs.History.{bit, is_on, word}
+use Rattle.cdl_values.specs.History.{bit, is_on, word}
 
 -- the count from the count and both inputs before
 abbrev pub count_next : ℤ → ℤ → Bool → Bool → List ℤ → ℤ

@@ -1,6 +1,6 @@
 -- What latches and toggles remember.
 use Rattle.std.specs.Prelude.{ℤ, Bool, true, false, cond, not, ◌&&◌, List}
-use Rattle.cdl_kinds.specs.History.{History, Meaning, is_on, word}
+use Rattle.cdl_values.specs.History.{History, Meaning, is_on, word}
 use Rattle.cdl_kinds.specs.Meaning.Edges.{latch, latched, toggle, toggled}
 use Rattle.cdl_blocks.specs.declared.memory.MemoryOp.{MemoryOp}
 use Rattle.cdl_blocks.specs.declared.memory.MemoryOp.TheVariants.{Latch, Toggle}

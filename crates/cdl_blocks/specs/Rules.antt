@@ -1,13 +1,13 @@
 -- What is compared with a hysteresis.
 use Rattle.std.specs.Prelude.{ℕ, ◌≡◌, refl, ℤ, Bool, true, List, [], ◌∷◌}
-use Rattle.cdl_kinds.specs.declared.value.ValueType.TheVariants.{Real}
-use Rattle.cdl_kinds.specs.History.{Inputs, reals, typed}
+use Rattle.cdl_values.specs.declared.value.ValueType.TheVariants.{Real}
+use Rattle.cdl_values.specs.History.{Signature, reals, typed}
 use Rattle.cdl_kinds.specs.Meaning.Reals.{above, above_threshold, below, below_threshold, between}
 use Rattle.cdl_blocks.specs.declared.hysteresis.Rule.{Rule}
 use Rattle.cdl_blocks.specs.declared.hysteresis.Rule.TheVariants.{Above, Below, AboveThreshold, BelowThreshold, Between}
 
 -- two inputs, or one beside a parameter
-abbrev pub rule_inputs : Rule → Inputs
+abbrev pub rule_inputs : Rule → Signature
 rule_inputs (Above d) = typed (Real ∷ Real ∷ [])
 rule_inputs (Below d) = typed (Real ∷ Real ∷ [])
 rule_inputs (AboveThreshold t d) = reals 1

@@ -1,13 +1,14 @@
 // A counter of rising inputs.
 ghost use Rattle.std.specs.Prelude.{◌≡◌, ◌≤◌, [], ◌∷◌, cond, length, pos, refl, true, unsigned_abs};
-ghost use Rattle.cdl_kinds.specs.declared.value.ValueType.TheVariants.{Boolean, Integer};
-ghost use Rattle.cdl_kinds.specs.History.{AreValues, before, bit, integers, is_on, typed, word};
-ghost use Rattle.cdl_kinds.specs.Laws.{by_all};
+ghost use Rattle.cdl_values.specs.declared.value.ValueType.TheVariants.{Boolean, Integer};
+ghost use Rattle.cdl_values.specs.History.{AreValues, before, bit, integers, is_on, typed, word};
+ghost use Rattle.cdl_values.proofs.Laws.{by_all};
 ghost use Rattle.cdl_kinds.specs.Meaning.Integers.{counted, on_counter};
 ghost use Rattle.cdl_blocks.specs.Counter.{count_next};
 
-use cdl_kinds::words::{bit, is_on, put_integer, put_three, read};
-use cdl_kinds::{Elementary, NoValue, Steps};
+use cdl_values::words::{bit, is_on, put_integer, put_three, read};
+use cdl_kinds::{Elementary, Steps};
+use cdl_values::NoValue;
 use cdl_memoryless::Whole;
 use cdl_timed::checks::holds_count;
 use std::sync::ledger::Ledger;
@@ -88,7 +89,7 @@ impl Elementary for OnCounter {
 
     ghost meaning = { λ b. on_counter b.start };
 
-    ghost lacks = { λ _ _ x. is_on (word x 0) ≡ true };
+    ghost may_lack = { λ _ _ x. is_on (word x 0) ≡ true };
 
     ghost stands = { λ b state h. state ≡ counted b.start h ∷ before (pos 1) 0 h ∷ before (pos 1) 1 h ∷ [] };
 

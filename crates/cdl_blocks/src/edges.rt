@@ -1,14 +1,15 @@
 // Blocks that look at a Boolean and at the one before.
 ghost use Rattle.std.specs.Prelude.{◌≡◌, [], ◌∷◌, refl};
-ghost use Rattle.cdl_kinds.specs.declared.value.ValueType.TheVariants.{Boolean};
-ghost use Rattle.cdl_kinds.specs.History.{AreValues, before, bit, booleans, later};
-ghost use Rattle.cdl_kinds.specs.Laws.{by_all};
+ghost use Rattle.cdl_values.specs.declared.value.ValueType.TheVariants.{Boolean};
+ghost use Rattle.cdl_values.specs.History.{AreValues, before, bit, booleans, later};
+ghost use Rattle.cdl_values.proofs.Laws.{by_all};
 ghost use Rattle.cdl_kinds.specs.Meaning.Edges.{edge, pre};
 ghost use Rattle.cdl_blocks.specs.Edges.{edge_function};
 
 use crate::seen::Seen;
-use cdl_kinds::words::{bit, is_on, put_one};
-use cdl_kinds::{Elementary, NoValue, Steps};
+use cdl_values::words::{bit, is_on, put_one};
+use cdl_kinds::{Elementary, Steps};
+use cdl_values::NoValue;
 use cdl_timed::checks::holds_boolean;
 use std::sync::ledger::Ledger;
 
@@ -47,7 +48,7 @@ impl Elementary for Edge {
 
     ghost meaning = { λ b. edge (edge_function b.op) b.start };
 
-    ghost lacks = { λ _ _ _. ⊥ };
+    ghost may_lack = { λ _ _ _. ⊥ };
 
     ghost stands = { λ b state h. state ≡ before (bit b.start) 0 h ∷ [] };
 
@@ -104,7 +105,7 @@ impl Elementary for Pre {
 
     ghost meaning = { λ b. pre b.start };
 
-    ghost lacks = { λ _ _ _. ⊥ };
+    ghost may_lack = { λ _ _ _. ⊥ };
 
     ghost stands = { λ b state h. state ≡ before (bit b.start) 0 h ∷ [] };
 

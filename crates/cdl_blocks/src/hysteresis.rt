@@ -2,14 +2,15 @@
 ghost use Rattle.std.specs.Prelude.{◌≡◌, ◌+ℤ◌, ◌-ℤ◌, [], ◌∷◌, cond, length, pos};
 ghost use Rattle.std.specs.Int.RustNames.{int_le, int_lt};
 ghost use Rattle.cdl_decimal.specs.Near.{InRange};
-ghost use Rattle.cdl_kinds.specs.History.{AreValues, bit, booleans, is_on, word};
-ghost use Rattle.cdl_kinds.specs.Laws.{by_all};
+ghost use Rattle.cdl_values.specs.History.{AreValues, bit, booleans, is_on, word};
+ghost use Rattle.cdl_values.proofs.Laws.{by_all};
 ghost use Rattle.cdl_kinds.specs.Meaning.Reals.{remembered, remembering};
 ghost use Rattle.cdl_blocks.specs.Rules.{rule_direct, rule_function, rule_inputs};
 
 use cdl_decimal::Real;
-use cdl_kinds::words::{bit, is_on, put_one, read_real};
-use cdl_kinds::{Elementary, NoValue, Steps};
+use cdl_values::words::{bit, is_on, put_one, read_real};
+use cdl_kinds::{Elementary, Steps};
+use cdl_values::NoValue;
 use cdl_timed::checks::holds_boolean;
 use std::sync::ledger::Ledger;
 
@@ -135,7 +136,7 @@ impl Elementary for Hysteresis {
 
     ghost meaning = { λ b. remembering (rule_function b.rule) b.start };
 
-    ghost lacks = { λ _ _ _. ⊥ };
+    ghost may_lack = { λ _ _ _. ⊥ };
 
     ghost stands = { λ b state h. state ≡ bit (remembered (rule_function b.rule) b.start h) ∷ [] };
 

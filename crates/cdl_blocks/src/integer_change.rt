@@ -1,12 +1,13 @@
 // A block that looks at an Integer and at the one before.
 ghost use Rattle.std.specs.Prelude.{◌≡◌, [], ◌∷◌, length, refl};
-ghost use Rattle.cdl_kinds.specs.declared.value.ValueType.TheVariants.{Boolean};
-ghost use Rattle.cdl_kinds.specs.History.{AreValues, before, integers, typed, word};
-ghost use Rattle.cdl_kinds.specs.Laws.{by_all};
+ghost use Rattle.cdl_values.specs.declared.value.ValueType.TheVariants.{Boolean};
+ghost use Rattle.cdl_values.specs.History.{AreValues, before, integers, typed, word};
+ghost use Rattle.cdl_values.proofs.Laws.{by_all};
 ghost use Rattle.cdl_kinds.specs.Meaning.Integers.{changes, integer_change};
 
-use cdl_kinds::words::{bit, put_one, put_three, read};
-use cdl_kinds::{Elementary, NoValue, Steps};
+use cdl_values::words::{bit, put_one, put_three, read};
+use cdl_kinds::{Elementary, Steps};
+use cdl_values::NoValue;
 use cdl_memoryless::Whole;
 use cdl_timed::checks::holds_integer;
 use std::sync::ledger::Ledger;
@@ -58,7 +59,7 @@ impl Elementary for IntegerChange {
 
     ghost meaning = { λ b. integer_change b.start };
 
-    ghost lacks = { λ _ _ _. ⊥ };
+    ghost may_lack = { λ _ _ _. ⊥ };
 
     ghost stands = { λ b state h. state ≡ before b.start 0 h ∷ [] };
 

@@ -1,12 +1,13 @@
 // Blocks that remember that their input started.
 ghost use Rattle.std.specs.Prelude.{◌≡◌, [], ◌∷◌, length, pos, refl};
-ghost use Rattle.cdl_kinds.specs.declared.value.ValueType.TheVariants.{Boolean};
-ghost use Rattle.cdl_kinds.specs.History.{AreValues, before, bit, booleans, is_on, typed, word};
-ghost use Rattle.cdl_kinds.specs.Laws.{by_all};
+ghost use Rattle.cdl_values.specs.declared.value.ValueType.TheVariants.{Boolean};
+ghost use Rattle.cdl_values.specs.History.{AreValues, before, bit, booleans, is_on, typed, word};
+ghost use Rattle.cdl_values.proofs.Laws.{by_all};
 ghost use Rattle.cdl_blocks.specs.Memory.{memory, memory_meaning, memory_next, memory_started};
 
-use cdl_kinds::words::{bit, is_on, put_one, put_two};
-use cdl_kinds::{Elementary, NoValue, Steps};
+use cdl_values::words::{bit, is_on, put_one, put_two};
+use cdl_kinds::{Elementary, Steps};
+use cdl_values::NoValue;
 use cdl_timed::checks::holds_booleans;
 use std::sync::ledger::Ledger;
 
@@ -88,7 +89,7 @@ impl Elementary for Memory {
 
     ghost meaning = { λ b. memory_meaning b.op };
 
-    ghost lacks = { λ _ _ _. ⊥ };
+    ghost may_lack = { λ _ _ _. ⊥ };
 
     ghost stands = { λ b state h. state ≡ bit (memory b.op h) ∷ before (pos 0) 0 h ∷ [] };
 

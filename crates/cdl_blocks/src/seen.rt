@@ -1,8 +1,8 @@
 // What a block keeps of its one Boolean input.
 ghost use Rattle.std.specs.Prelude.{◌≡◌, [], ◌∷◌, length};
-ghost use Rattle.cdl_kinds.specs.History.{bit, is_on, word};
+ghost use Rattle.cdl_values.specs.History.{bit, is_on, word};
 
-use cdl_kinds::words::{bit, is_on, put_one};
+use cdl_values::words::{bit, is_on, put_one};
 
 /// A Boolean input at the last tick.
 #[derive(Clone, Copy, Drop)]

@@ -8,9 +8,10 @@ use Rattle.cdl_tree.specs.Parts.{items_of, connects_of}
 use Rattle.cdl_classes.specs.declared.found.ClassId.{ClassId}
 use Rattle.cdl_classes.specs.declared.found.Found.{Found}
 use Rattle.cdl_classes.specs.declared.found.Found.TheVariants as found
-use Rattle.cdl_classes.specs.Classes.{Declared, declared}
+use Rattle.cdl_scopes.specs.Classes.{Declared, declared}
 use Rattle.cdl_classes.specs.Rules.{class_of}
-use Rattle.cdl_classes.specs.Table.{cut, block_of as block_named}
+use Rattle.cdl_classes.specs.Table.{block_of as block_named}
+use Rattle.cdl_scopes.specs.Classes.{cut}
 use Rattle.cdl_classes.specs.Verdict.{IsUnbroken}
 use Rattle.cdl_flat.specs.Blocks.{Block, block_of}
 use Rattle.cdl_flat.specs.Flat.{IsFlat}

@@ -1,5 +1,6 @@
 // A net: lists in which a name is a place.
-use cdl_kinds::{Kind, Params, ValueType};
+use cdl_kinds::{Kind, Params};
+use cdl_values::ValueType;
 use cdl_source::{List, Text};
 
 /// What an instance is.

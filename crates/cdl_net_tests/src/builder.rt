@@ -1,6 +1,7 @@
 // A net of a short text.
 use cdl_connect::{Body, Net, NetElement, NetInstance, RawWire};
-use cdl_kinds::{Kind, ValueType, check};
+use cdl_kinds::{Kind, check};
+use cdl_values::ValueType;
 use cdl_source::{List, OutOfMemory, Text};
 use std::alloc::Global;
 

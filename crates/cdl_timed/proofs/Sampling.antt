@@ -4,11 +4,10 @@ use Rattle.std.specs.Prelude.{pos, negsuc, ◌≤ℤ◌, ◌<ℤ◌}
 use Rattle.std.specs.Int.RustNames.{int_le, int_lt}
 use Rattle.std.proofs.lemmas.Int.{ints}
 use Rattle.cdl_decimal.specs.Near.{InRange}
-use Rattle.cdl_kinds.specs.declared.value.ValueType.TheVariants.{Boolean, Real}
-use Rattle.cdl_kinds.specs.History.{AreValues, History, IsHistory, IsValue, Tick, before, bit, is_on, last_time, later, reals, rises, tick, typed, word}
+use Rattle.cdl_values.specs.declared.value.ValueType.TheVariants.{Boolean, Real}
+use Rattle.cdl_values.specs.History.{AreValues, History, IsHistory, IsValue, Tick, before, bit, is_on, last_time, later, reals, rises, tick, typed, word}
 use Rattle.cdl_kinds.specs.Meaning.Discrete.{caught, first_or, interval, picked, picks, sampled, sampler, samples, second_or, triggered_max, triggered_sampler, unit_delay}
-use Rattle.cdl_kinds.specs.Meaning.Integers.{greater_of}
-use Rattle.cdl_kinds.specs.Meaning.Reals.{greatest}
+use Rattle.cdl_values.specs.Extremes.{greater_of, greatest}
 use Rattle.cdl_kinds.specs.States.{IsIntervalUpTo, IsSamplerState, IsUnitDelayState, has_begun, last_interval}
 use Rattle.cdl_kind_laws.proofs.Past.{caught_real, first_real, greatest_real, interval_up_to, picked_reals, sampled_reals, second_real}
 use Rattle.cdl_kind_laws.proofs.TypedWords.{choose_value}

@@ -1,9 +1,9 @@
 -- A few words are values, told one by one.
 use Rattle.std.proofs.Common.{ℕ, zero, suc, ◌<◌, ◌≡◌, refl, ℤ, List, [], ◌∷◌, length, arith}
 use Rattle.std.specs.Prelude.{◌↔◌, Bool, true, false, ◌&&◌, IsTrue}
-use Rattle.cdl_kinds.specs.declared.value.ValueType.{ValueType}
-use Rattle.cdl_kinds.specs.declared.value.ValueType.TheVariants.{Boolean, Integer, Real}
-use Rattle.cdl_kinds.specs.History.{AreValues, IsValue, booleans, integers, typed, word}
+use Rattle.cdl_values.specs.declared.value.ValueType.{ValueType}
+use Rattle.cdl_values.specs.declared.value.ValueType.TheVariants.{Boolean, Integer, Real}
+use Rattle.cdl_values.specs.History.{AreValues, IsValue, booleans, integers, typed, word}
 use Rattle.cdl_kind_laws.proofs.ValueWords.{one_boolean, one_integer, two_booleans, two_values, three_values}
 
 pub one_boolean_state : (s : List ℤ) → length s ≡ 1 → IsValue Boolean (word s 0) ↔ AreValues (booleans 1) s

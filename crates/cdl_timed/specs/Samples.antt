@@ -1,9 +1,9 @@
 -- What samplers keep, a tick further.
 use Rattle.std.specs.Prelude.{ℤ, ◌≡◌, refl, Bool, true, false, cond, not, ◌&&◌, List, [], ◌∷◌, Some}
 use Rattle.std.specs.Int.RustNames.{int_lt}
-use Rattle.cdl_kinds.specs.History.{is_on, word}
+use Rattle.cdl_values.specs.History.{is_on, word}
 use Rattle.cdl_kinds.specs.Meaning.Discrete.{interval, second_or}
-use Rattle.cdl_kinds.specs.Meaning.Integers.{greater_of}
+use Rattle.cdl_values.specs.Extremes.{greater_of}
 
 -- the first value where a tick is a sample tick, by the interval of the tick before, else the second
 abbrev pub at_sample : ℤ → ℤ → ℤ → ℤ → ℤ → ℤ

@@ -1,6 +1,6 @@
 -- Times that are added up.
 use Rattle.std.specs.Prelude.{ℤ, pos, negsuc, ◌≡◌, ◌+ℤ◌, ◌*ℤ◌, ◌≤ℤ◌, Bool, false, cond, not, ◌&&◌, List}
-use Rattle.cdl_kinds.specs.History.{is_on, word}
+use Rattle.cdl_values.specs.History.{is_on, word}
 use Rattle.cdl_kinds.specs.Meaning.Timers.{elapsed}
 
 -- what was added up to a last tick at which u was so: no more than the time, and before any tick nothing

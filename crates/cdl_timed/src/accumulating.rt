@@ -1,8 +1,8 @@
 // How long the input has been true in all.
 ghost use Rattle.std.specs.Prelude.{◌≡◌, ◌↔◌, IsTrue, ◌≤ℤ◌, ◌<ℤ◌, ◌+ℤ◌, ◌*ℤ◌, [], ◌∷◌, cond, length, negsuc, pos, refl, true};
-ghost use Rattle.cdl_kinds.specs.declared.value.ValueType.TheVariants.{Boolean, Real};
-ghost use Rattle.cdl_kinds.specs.History.{IsTime, IsValue, before, bit, is_on, last_time, typed, word};
-ghost use Rattle.cdl_kinds.specs.Laws.{by_all};
+ghost use Rattle.cdl_values.specs.declared.value.ValueType.TheVariants.{Boolean, Real};
+ghost use Rattle.cdl_values.specs.History.{IsTime, IsValue, before, bit, is_on, last_time, typed, word};
+ghost use Rattle.cdl_values.proofs.Laws.{by_all};
 ghost use Rattle.cdl_kinds.specs.Meaning.Timers.{accumulated, elapsed, timer_accumulating};
 ghost use Rattle.cdl_kinds.specs.States.{IsAccumulatingState};
 ghost use Rattle.cdl_timed.specs.Sums.{HasSum, IsSum, sum_next};
@@ -10,8 +10,9 @@ ghost use Rattle.cdl_timed.specs.Sums.{HasSum, IsSum, sum_next};
 use crate::checks::{is_boolean_at, is_time};
 use crate::times::{elapsed, put_four, put_timed};
 use cdl_decimal::Real;
-use cdl_kinds::words::{bit, is_on, read};
-use cdl_kinds::{Elementary, NoValue, Steps};
+use cdl_values::words::{bit, is_on, read};
+use cdl_kinds::{Elementary, Steps};
+use cdl_values::NoValue;
 use std::sync::ledger::Ledger;
 
 // The time that was added up, the time of the last tick or -1 before any, and both inputs there.
@@ -130,7 +131,7 @@ impl Elementary for TimerAccumulating {
 
     ghost meaning = { λ b. timer_accumulating b.time };
 
-    ghost lacks = { λ _ _ _. ⊥ };
+    ghost may_lack = { λ _ _ _. ⊥ };
 
     ghost stands = { λ _ state h. state ≡ accumulated h ∷ last_time h ∷ before (pos 0) 0 h ∷ before (pos 1) 1 h ∷ [] };
 

@@ -1,10 +1,10 @@
 //! Whether words are those of a state, as the blocks with a memory need it.
 ghost use Rattle.std.specs.Prelude.{◌≡◌, ◌<◌, ◌↔◌, IsTrue, length, [], ◌∷◌};
-ghost use Rattle.cdl_kinds.specs.declared.value.ValueType.TheVariants.{Boolean, Integer, Real};
-ghost use Rattle.cdl_kinds.specs.History.{AreValues, IsValue, booleans, integers, typed, word};
+ghost use Rattle.cdl_values.specs.declared.value.ValueType.TheVariants.{Boolean, Integer, Real};
+ghost use Rattle.cdl_values.specs.History.{AreValues, IsValue, booleans, integers, typed, word};
 ghost use Rattle.cdl_kinds.specs.States.{IsTimeUpTo};
 
-use cdl_kinds::words::read;
+use cdl_values::words::read;
 
 /// Whether the word is a Boolean.
 pub fn is_boolean(w: i64) -> bool

@@ -1,16 +1,17 @@
 // A delay of what becomes true.
 ghost use Rattle.std.specs.Prelude.{◌≡◌, ◌&&◌, ◌||◌, not, [], ◌∷◌, length, refl};
-ghost use Rattle.cdl_kinds.specs.History.{IsTime, bit, booleans, is_on, word};
-ghost use Rattle.cdl_kinds.specs.Laws.{by_all};
-ghost use Rattle.cdl_kinds.specs.Meaning.Timers.{always_on, began, is_long, true_delay};
+ghost use Rattle.cdl_values.specs.History.{IsTime, bit, booleans, is_on, word};
+ghost use Rattle.cdl_values.proofs.Laws.{by_all};
+ghost use Rattle.cdl_kinds.specs.Meaning.Timers.{always_on, began, has_lasted, true_delay};
 ghost use Rattle.cdl_kinds.specs.States.{IsDelayState, time_word};
 ghost use Rattle.cdl_timed.specs.Runs.{IsRun, run_next, time_of};
 
 use crate::checks::{is_boolean, is_time};
 use crate::times::{elapsed, put_flag, read_time, run_next, time_word};
 use cdl_decimal::Real;
-use cdl_kinds::words::{bit, is_on, put_two, read};
-use cdl_kinds::{Elementary, NoValue, Steps};
+use cdl_values::words::{bit, is_on, put_two, read};
+use cdl_kinds::{Elementary, Steps};
+use cdl_values::NoValue;
 use std::sync::ledger::Ledger;
 
 // When the run of true inputs began that the last tick ended, and whether the input was true at every tick.
@@ -58,7 +59,7 @@ impl Run {
     fn is_long(self, delay: Real, now: i64) -> bool
         requires now { IsTime now }
         requires run { IsRun now self.since }
-        ensures { result ≡ is_long delay now self.since }
+        ensures { result ≡ has_lasted delay now self.since }
     {
         match self.since {
             Some(begin) => delay.count() <= elapsed(begin, now),
@@ -70,7 +71,7 @@ impl Run {
     fn output(self, on: bool, block: &TrueDelay, now: i64) -> bool
         requires now { IsTime now }
         requires run { IsRun now self.since }
-        ensures { result ≡ (on && (is_long block.now.delay now self.since || (self.always && not block.now.on_init))) }
+        ensures { result ≡ (on && (has_lasted block.now.delay now self.since || (self.always && not block.now.on_init))) }
     {
         on && (self.is_long(block.delay, now) || (self.always && !block.on_init))
     }
@@ -92,7 +93,7 @@ impl Elementary for TrueDelay {
 
     ghost meaning = { λ b. true_delay b.delay b.on_init };
 
-    ghost lacks = { λ _ _ _. ⊥ };
+    ghost may_lack = { λ _ _ _. ⊥ };
 
     ghost stands = { λ _ state h. state ≡ time_word (began h) ∷ bit (always_on h) ∷ [] };
 

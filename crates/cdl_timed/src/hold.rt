@@ -1,8 +1,8 @@
 // A hold of what was true or false.
 ghost use Rattle.std.specs.Prelude.{◌≡◌, ◌≤ℤ◌, [], ◌∷◌, Some, cond, length, pos, refl};
 ghost use Rattle.std.specs.Int.RustNames.{int_le};
-ghost use Rattle.cdl_kinds.specs.History.{IsTime, bit, booleans, is_on, word};
-ghost use Rattle.cdl_kinds.specs.Laws.{by_all};
+ghost use Rattle.cdl_values.specs.History.{IsTime, bit, booleans, is_on, word};
+ghost use Rattle.cdl_values.proofs.Laws.{by_all};
 ghost use Rattle.cdl_kinds.specs.Meaning.Timers.{elapsed, held, held_from, held_next, true_false_hold};
 ghost use Rattle.cdl_kinds.specs.States.{IsHoldState, hold_words, time_word};
 ghost use Rattle.cdl_timed.specs.Holding.{held_as, held_with};
@@ -11,8 +11,9 @@ ghost use Rattle.cdl_timed.specs.Runs.{IsRun, time_of};
 use crate::checks::{is_boolean, is_time};
 use crate::times::{elapsed, put_flag, read_time, time_word};
 use cdl_decimal::Real;
-use cdl_kinds::words::{bit, is_on, put_two, read};
-use cdl_kinds::{Elementary, NoValue, Steps};
+use cdl_values::words::{bit, is_on, put_two, read};
+use cdl_kinds::{Elementary, Steps};
+use cdl_values::NoValue;
 use std::sync::ledger::Ledger;
 
 // The output at the last tick, and when it changed last; no time before any tick.
@@ -109,7 +110,7 @@ impl Elementary for TrueFalseHold {
 
     ghost meaning = { λ b. true_false_hold b.true_hold b.false_hold };
 
-    ghost lacks = { λ _ _ _. ⊥ };
+    ghost may_lack = { λ _ _ _. ⊥ };
 
     ghost stands = { λ b state h. state ≡ hold_words (held b.true_hold b.false_hold h) };
 

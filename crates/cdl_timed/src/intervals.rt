@@ -1,6 +1,6 @@
 // Sample intervals.
 ghost use Rattle.std.specs.Prelude.{◌≡◌, ◌↔◌, ◌≤ℤ◌, ◌<ℤ◌, ◌*ℤ◌, IsTrue, pos};
-ghost use Rattle.cdl_kinds.specs.History.{IsTime};
+ghost use Rattle.cdl_values.specs.History.{IsTime};
 ghost use Rattle.cdl_kinds.specs.Meaning.Discrete.{interval};
 ghost use Rattle.cdl_kinds.specs.States.{IsIntervalUpTo};
 

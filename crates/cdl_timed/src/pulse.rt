@@ -2,13 +2,14 @@
 ghost use Rattle.std.specs.Prelude.{◌≡◌, ◌<ℤ◌, ◌*ℤ◌, ◌-ℤ◌, ◌≤◌, [], length, pos, refl, unsigned_abs};
 ghost use Rattle.std.specs.Int.{int_rem_euclid};
 ghost use Rattle.std.specs.Int.RustNames.{int_lt};
-ghost use Rattle.cdl_kinds.specs.History.{IsTime, booleans, typed};
-ghost use Rattle.cdl_kinds.specs.Laws.{by_all};
+ghost use Rattle.cdl_values.specs.History.{IsTime, booleans, typed};
+ghost use Rattle.cdl_values.proofs.Laws.{by_all};
 ghost use Rattle.cdl_kinds.specs.Meaning.Timers.{pulse};
 
 use crate::times::put_flag;
 use cdl_decimal::Real;
-use cdl_kinds::{Elementary, NoValue, Steps};
+use cdl_kinds::{Elementary, Steps};
+use cdl_values::NoValue;
 use std::sync::ledger::Ledger;
 
 // The count of a Real.
@@ -82,7 +83,7 @@ impl Elementary for Pulse {
 
     ghost meaning = { λ b. pulse b.width b.period b.shift };
 
-    ghost lacks = { λ _ _ _. ⊥ };
+    ghost may_lack = { λ _ _ _. ⊥ };
 
     ghost stands = { λ _ state _. state ≡ [] };
 

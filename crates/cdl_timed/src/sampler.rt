@@ -1,8 +1,8 @@
 // Samplers.
 ghost use Rattle.std.specs.Prelude.{◌≡◌, ◌<ℤ◌, [], ◌∷◌, length, pos, refl};
 ghost use Rattle.cdl_decimal.specs.Near.{InRange};
-ghost use Rattle.cdl_kinds.specs.History.{IsTime, reals, word};
-ghost use Rattle.cdl_kinds.specs.Laws.{by_all};
+ghost use Rattle.cdl_values.specs.History.{IsTime, reals, word};
+ghost use Rattle.cdl_values.proofs.Laws.{by_all};
 ghost use Rattle.cdl_kinds.specs.Meaning.Discrete.{first_or, interval, sampled, sampler};
 ghost use Rattle.cdl_kinds.specs.States.{IsIntervalUpTo, IsSamplerState, last_interval};
 ghost use Rattle.cdl_timed.specs.Samples.{at_sample};
@@ -10,8 +10,9 @@ ghost use Rattle.cdl_timed.specs.Samples.{at_sample};
 use crate::checks::is_real;
 use crate::intervals::{interval, is_interval};
 use cdl_decimal::Real;
-use cdl_kinds::words::{put_one, put_two, read};
-use cdl_kinds::{Elementary, NoValue, Steps};
+use cdl_values::words::{put_one, put_two, read};
+use cdl_kinds::{Elementary, Steps};
+use cdl_values::NoValue;
 use std::sync::ledger::Ledger;
 
 // The sample interval of the last tick, -1 before any, and the last sample.
@@ -75,7 +76,7 @@ impl Elementary for Sampler {
 
     ghost meaning = { λ b. sampler b.period };
 
-    ghost lacks = { λ _ _ _. ⊥ };
+    ghost may_lack = { λ _ _ _. ⊥ };
 
     ghost stands = { λ b state h. state ≡ last_interval b.period h ∷ first_or (pos 0) (sampled b.period h) ∷ [] };
 

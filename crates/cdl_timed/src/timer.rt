@@ -1,8 +1,8 @@
 // How long the input has been true.
 ghost use Rattle.std.specs.Prelude.{◌≡◌, [], ◌∷◌, length, pos, refl};
-ghost use Rattle.cdl_kinds.specs.declared.value.ValueType.TheVariants.{Boolean, Real};
-ghost use Rattle.cdl_kinds.specs.History.{IsTime, booleans, is_on, typed, word};
-ghost use Rattle.cdl_kinds.specs.Laws.{by_all};
+ghost use Rattle.cdl_values.specs.declared.value.ValueType.TheVariants.{Boolean, Real};
+ghost use Rattle.cdl_values.specs.History.{IsTime, booleans, is_on, typed, word};
+ghost use Rattle.cdl_values.proofs.Laws.{by_all};
 ghost use Rattle.cdl_kinds.specs.Meaning.Timers.{began, timer};
 ghost use Rattle.cdl_kinds.specs.States.{IsTimerState, time_word};
 ghost use Rattle.cdl_timed.specs.Runs.{IsRun, run_next, time_of};
@@ -10,8 +10,9 @@ ghost use Rattle.cdl_timed.specs.Runs.{IsRun, run_next, time_of};
 use crate::checks::is_time;
 use crate::times::{put_timed, read_time, run_length, run_next, time_word};
 use cdl_decimal::Real;
-use cdl_kinds::words::{is_on, put_two, read};
-use cdl_kinds::{Elementary, NoValue, Steps};
+use cdl_values::words::{is_on, put_two, read};
+use cdl_kinds::{Elementary, Steps};
+use cdl_values::NoValue;
 use std::sync::ledger::Ledger;
 
 // When the run of true inputs began that the last tick ended.
@@ -65,7 +66,7 @@ impl Elementary for Timer {
 
     ghost meaning = { λ b. timer b.time };
 
-    ghost lacks = { λ _ _ _. ⊥ };
+    ghost may_lack = { λ _ _ _. ⊥ };
 
     ghost stands = { λ _ state h. state ≡ time_word (began h) ∷ pos 0 ∷ [] };
 

@@ -1,14 +1,14 @@
 // Times and runs in state words.
 ghost use Rattle.std.specs.Prelude.{◌≡◌, ◌≤ℤ◌, [], ◌∷◌, length, pos};
-ghost use Rattle.cdl_kinds.specs.declared.value.ValueType.TheVariants.{Boolean, Real as RealType};
+ghost use Rattle.cdl_values.specs.declared.value.ValueType.TheVariants.{Boolean, Real as RealType};
 ghost use Rattle.cdl_decimal.specs.Near.{InRange};
-ghost use Rattle.cdl_kinds.specs.History.{AreValues, IsTime, bit, typed};
+ghost use Rattle.cdl_values.specs.History.{AreValues, IsTime, bit, typed};
 ghost use Rattle.cdl_kinds.specs.Meaning.Timers.{elapsed, run_length, timed};
 ghost use Rattle.cdl_kinds.specs.States.{time_word};
 ghost use Rattle.cdl_timed.specs.Runs.{IsRun, run_next, time_of};
 
 use cdl_decimal::Real;
-use cdl_kinds::words::{bit, put_one, put_two};
+use cdl_values::words::{bit, put_one, put_two};
 
 /// The time of the word; none for -1.
 pub fn read_time(word: i64) -> Option<i64>

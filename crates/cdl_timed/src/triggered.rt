@@ -1,19 +1,19 @@
 // What a trigger picks.
 ghost use Rattle.std.specs.Prelude.{◌≡◌, [], ◌∷◌, length, pos, refl, true};
-ghost use Rattle.cdl_kinds.specs.declared.value.ValueType.TheVariants.{Boolean, Real as RealType};
+ghost use Rattle.cdl_values.specs.declared.value.ValueType.TheVariants.{Boolean, Real as RealType};
 ghost use Rattle.cdl_decimal.specs.Near.{InRange};
-ghost use Rattle.cdl_kinds.specs.History.{AreValues, before, bit, is_on, reals, typed, word};
-ghost use Rattle.cdl_kinds.specs.Laws.{by_all};
+ghost use Rattle.cdl_values.specs.History.{AreValues, before, bit, is_on, reals, typed, word};
+ghost use Rattle.cdl_values.proofs.Laws.{by_all};
 ghost use Rattle.cdl_kinds.specs.Meaning.Discrete.{caught, picked, triggered_max, triggered_sampler};
-ghost use Rattle.cdl_kinds.specs.Meaning.Integers.{greater_of};
-ghost use Rattle.cdl_kinds.specs.Meaning.Reals.{greatest};
+ghost use Rattle.cdl_values.specs.Extremes.{greater_of, greatest};
 ghost use Rattle.cdl_kinds.specs.States.{has_begun};
 ghost use Rattle.cdl_timed.specs.Samples.{catch_next, greatest_next};
 
 use crate::checks::{holds_begun_sample, holds_sample};
 use cdl_decimal::Real;
-use cdl_kinds::words::{bit, is_on, put_one, put_three, put_two, read};
-use cdl_kinds::{Elementary, NoValue, Steps};
+use cdl_values::words::{bit, is_on, put_one, put_three, put_two, read};
+use cdl_kinds::{Elementary, Steps};
+use cdl_values::NoValue;
 use std::sync::ledger::Ledger;
 
 // The trigger at the last tick, and what was caught.
@@ -73,7 +73,7 @@ impl Elementary for TriggeredSampler {
 
     ghost meaning = { λ b. triggered_sampler b.start };
 
-    ghost lacks = { λ _ _ _. ⊥ };
+    ghost may_lack = { λ _ _ _. ⊥ };
 
     ghost stands = { λ b state h. state ≡ before (pos 1) 1 h ∷ caught b.start h ∷ [] };
 
@@ -197,7 +197,7 @@ impl Elementary for TriggeredMax {
 
     ghost meaning = { λ _. triggered_max };
 
-    ghost lacks = { λ _ _ _. ⊥ };
+    ghost may_lack = { λ _ _ _. ⊥ };
 
     ghost stands = { λ _ state h. state ≡ bit (has_begun h) ∷ before (pos 1) 1 h ∷ greatest (picked h) ∷ [] };
 

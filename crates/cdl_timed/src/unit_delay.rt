@@ -1,8 +1,8 @@
 // A delay by one sample.
 ghost use Rattle.std.specs.Prelude.{◌≡◌, ◌↔◌, IsTrue, ◌<ℤ◌, [], ◌∷◌, length, pos};
-ghost use Rattle.cdl_kinds.specs.declared.value.ValueType.TheVariants.{Real as RealType};
+ghost use Rattle.cdl_values.specs.declared.value.ValueType.TheVariants.{Real as RealType};
 ghost use Rattle.cdl_decimal.specs.Near.{InRange};
-ghost use Rattle.cdl_kinds.specs.History.{IsTime, IsValue, later, reals, word};
+ghost use Rattle.cdl_values.specs.History.{IsTime, IsValue, later, reals, word};
 ghost use Rattle.cdl_kinds.specs.Meaning.Discrete.{first_or, interval, sampled, samples, second_or, unit_delay};
 ghost use Rattle.cdl_kinds.specs.States.{IsIntervalUpTo, IsUnitDelayState, last_interval};
 ghost use Rattle.cdl_timed.specs.Samples.{at_sample, second_sample};
@@ -10,8 +10,9 @@ ghost use Rattle.cdl_timed.specs.Samples.{at_sample, second_sample};
 use crate::checks::is_real_at;
 use crate::intervals::{interval, is_interval};
 use cdl_decimal::Real;
-use cdl_kinds::words::{put_one, put_three, read};
-use cdl_kinds::{Elementary, NoValue, Steps};
+use cdl_values::words::{put_one, put_three, read};
+use cdl_kinds::{Elementary, Steps};
+use cdl_values::NoValue;
 use std::sync::ledger::Ledger;
 
 // The sample interval of the last tick, -1 before any, and the last two samples.
@@ -109,7 +110,7 @@ impl Elementary for UnitDelay {
 
     ghost meaning = { λ b. unit_delay b.period b.start };
 
-    ghost lacks = { λ _ _ _. ⊥ };
+    ghost may_lack = { λ _ _ _. ⊥ };
 
     ghost stands = { λ b state h. state ≡ last_interval b.period h ∷ second_or b.start (sampled b.period h) ∷ first_or b.start (sampled b.period h) ∷ [] };
 

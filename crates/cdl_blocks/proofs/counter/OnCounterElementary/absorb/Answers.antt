@@ -2,8 +2,8 @@ use Rattle.std.proofs.Common.{◌≡◌, ◌≤◌, ◌∙◌, ◌∷◌, arith,
 use Rattle.std.specs.Prelude.{unsigned_abs}
 use Rattle.std.specs.Int.{w64}
 use Rattle.std.proofs.lemmas.Int.{to_z-of_z}
-use Rattle.cdl_kinds.specs.declared.value.ValueType.TheVariants.{Boolean, Integer}
-use Rattle.cdl_kinds.specs.History.{tick}
+use Rattle.cdl_values.specs.declared.value.ValueType.TheVariants.{Boolean, Integer}
+use Rattle.cdl_values.specs.History.{tick}
 use Rattle.cdl_kinds.specs.Meaning.Integers.{counted}
 use Rattle.cdl_kind_laws.proofs.ValueWords.{bit_value, three_values}
 use Rattle.cdl_blocks.proofs.Counting.{count_further, counter_stands}

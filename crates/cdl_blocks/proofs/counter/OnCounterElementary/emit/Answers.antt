@@ -1,7 +1,7 @@
 use Rattle.std.proofs.Common.{◌≡◌, ◌∙◌, ◌∷◌, ℤ, arith, of_z, to_z}
 use Rattle.std.specs.Int.{w64}
 use Rattle.std.proofs.lemmas.Int.{to_z-of_z}
-use Rattle.cdl_kinds.specs.History.{tick}
+use Rattle.cdl_values.specs.History.{tick}
 use Rattle.cdl_kinds.specs.Meaning.Integers.{counted}
 use Rattle.cdl_blocks.proofs.Counting.{count_further, given_typed, lacks_count}
 use Rattle.cdl_blocks.proofs.counter.OnCounterElementary.emit.Goals as goal

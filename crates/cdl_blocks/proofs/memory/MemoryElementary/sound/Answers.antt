@@ -1,6 +1,6 @@
 use Rattle.std.proofs.Common.{inl, refl, arith}
 use Rattle.std.specs.Prelude.{pos}
-use Rattle.cdl_kinds.specs.declared.value.ValueType.TheVariants.{Boolean}
+use Rattle.cdl_values.specs.declared.value.ValueType.TheVariants.{Boolean}
 use Rattle.cdl_kind_laws.proofs.ValueWords.{before_value, bit_value, two_booleans}
 use Rattle.cdl_blocks.specs.Memory.{memory}
 use Rattle.cdl_blocks.proofs.memory.MemoryElementary.sound.Goals as goal

@@ -2,7 +2,7 @@ use Rattle.std.proofs.Common.{◌≡◌, ◌∙◌, arith, of_z, to_z}
 use Rattle.std.specs.Int.{w64}
 use Rattle.std.proofs.lemmas.Int.{to_z-of_z}
 use Rattle.std.proofs.Common.{◌∷◌, refl}
-use Rattle.cdl_kinds.specs.History.{tick}
+use Rattle.cdl_values.specs.History.{tick}
 use Rattle.cdl_kinds.specs.Meaning.Timers.{accumulated}
 use Rattle.cdl_timed.proofs.SumStates.{sum_further}
 use Rattle.cdl_timed.proofs.accumulating.TimerAccumulatingElementary.emit.Goals as goal

@@ -2,7 +2,7 @@ use Rattle.std.proofs.Common.{◌≡◌, ◌∙◌, ◌∷◌, [], refl, arith, 
 use Rattle.std.specs.Int.{w64}
 use Rattle.std.proofs.lemmas.Int.{to_z-of_z}
 use Rattle.cdl_decimal.specs.Near.{InRange}
-use Rattle.cdl_kinds.specs.declared.value.ValueType.TheVariants.{Boolean, Real}
+use Rattle.cdl_values.specs.declared.value.ValueType.TheVariants.{Boolean, Real}
 use Rattle.cdl_kind_laws.proofs.ValueWords.{bit_value, three_values}
 use Rattle.cdl_timed.proofs.Sampling.{greatest_stands}
 use Rattle.cdl_timed.proofs.triggered.TriggeredMaxElementary.absorb.Goals as goal
