@@ -8,6 +8,7 @@ use Rattle.cdl_values.specs.History.{AreValues, History, IsValue, before, bit, i
 use Rattle.cdl_kinds.specs.Meaning.Integers.{changes, counted, on_counter}
 use Rattle.cdl_kind_laws.proofs.TypedWords.{integer_typed}
 use Rattle.cdl_kind_laws.proofs.ValueWords.{bit_value, integer_fits, three_values}
+use Rattle.cdl_timed.proofs.ValueStates.{bit_again}
 use Rattle.cdl_blocks.specs.Counter.{count_next}
 
 pub changes_typed : (u p : ℤ) → AreValues (typed (Boolean ∷ Boolean ∷ Boolean ∷ [])) (changes u p)
@@ -44,11 +45,6 @@ pub lacks_count : {A B : Type 0} (r : Result A B) (z start count : ℤ) (trigger
 lacks_count (Ok a) z start count trigger reset x y e s c m = tt
 lacks_count (Err b) z start count trigger reset x y e s c m =
     passes start count (is_on (word x 1) && not reset) (not trigger) (is_on (word x 0)) s c (rw (← e) (out_of_range z m))
-
--- a Boolean's word, read and written
-bit_again : (w : ℤ) → IsValue Boolean w → bit (is_on w) ≡ w
-bit_again w (inl e) = rw e refl
-bit_again w (inr e) = rw e refl
 
 -- what is kept stands for one tick more
 pub counter_stands : (start now : ℤ) (x y : List ℤ) (h : History) (k r : ℤ) (t q : Bool) → AreValues (typed (Boolean ∷ Boolean ∷ [])) x → y ≡ k ∷ bit t ∷ bit q ∷ [] → (unsigned_abs r ≤ 2147483647 → k ≡ r) → t ≡ is_on (word x 0) → q ≡ is_on (word x 1)

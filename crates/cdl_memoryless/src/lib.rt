@@ -14,5 +14,6 @@ mod sums;
 mod whole;
 
 pub use make::is_memoryless;
+pub use memoryless::Memoryless;
 pub use memoryless_block::MemorylessBlock;
 pub use whole::Whole;

@@ -1,6 +1,4 @@
-pub mod SampleIntervals
-pub mod Sampling
+pub mod ValueStates
 pub mod RunStates
 pub mod SumStates
 pub mod HoldStates
-pub mod ValueStates

@@ -9,7 +9,7 @@ use Rattle.cdl_kinds.specs.States.{IsAccumulatingState}
 use Rattle.cdl_kind_laws.proofs.Past.{accumulated_added}
 use Rattle.cdl_kind_laws.proofs.ValueWords.{before_value, bit_value}
 use Rattle.cdl_timed.specs.Sums.{IsSum, sum_next}
-use Rattle.cdl_timed.proofs.Sampling.{bit_again}
+use Rattle.cdl_timed.proofs.ValueStates.{bit_again}
 
 -- where u was true there was a tick
 pub time_known : (sum last : ℤ) (u : Bool) → IsSum sum last u → u ≡ true → pos 0 ≤ℤ last

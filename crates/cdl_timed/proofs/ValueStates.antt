@@ -1,9 +1,9 @@
 -- A few words are values, told one by one.
-use Rattle.std.proofs.Common.{ℕ, zero, suc, ◌<◌, ◌≡◌, refl, ℤ, List, [], ◌∷◌, length, arith}
+use Rattle.std.proofs.Common.{ℕ, zero, suc, ◌<◌, ◌≡◌, inl, inr, refl, ℤ, List, [], ◌∷◌, length, arith}
 use Rattle.std.specs.Prelude.{◌↔◌, Bool, true, false, ◌&&◌, IsTrue}
 use Rattle.cdl_values.specs.declared.value.ValueType.{ValueType}
 use Rattle.cdl_values.specs.declared.value.ValueType.TheVariants.{Boolean, Integer, Real}
-use Rattle.cdl_values.specs.History.{AreValues, IsValue, booleans, integers, typed, word}
+use Rattle.cdl_values.specs.History.{AreValues, IsValue, bit, booleans, integers, is_on, typed, word}
 use Rattle.cdl_kind_laws.proofs.ValueWords.{one_boolean, one_integer, two_booleans, two_values, three_values}
 
 pub one_boolean_state : (s : List ℤ) → length s ≡ 1 → IsValue Boolean (word s 0) ↔ AreValues (booleans 1) s
@@ -40,3 +40,8 @@ count_state s e = three_state Integer Boolean Boolean s e
 
 pub begun_sample_state : (s : List ℤ) → length s ≡ 3 → (IsValue Boolean (word s 0) × IsValue Boolean (word s 1) × IsValue Real (word s 2)) ↔ AreValues (typed (Boolean ∷ Boolean ∷ Real ∷ [])) s
 begun_sample_state s e = three_state Boolean Boolean Real s e
+
+-- a Boolean's word, read and written
+pub bit_again : (w : ℤ) → IsValue Boolean w → bit (is_on w) ≡ w
+bit_again w (inl e) = rw e refl
+bit_again w (inr e) = rw e refl

@@ -1,4 +1,3 @@
 pub mod Runs
 pub mod Sums
 pub mod Holding
-pub mod Samples

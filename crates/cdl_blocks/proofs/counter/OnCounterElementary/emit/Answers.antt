@@ -7,7 +7,7 @@ use Rattle.cdl_blocks.proofs.Counting.{count_further, given_typed, lacks_count}
 use Rattle.cdl_blocks.proofs.counter.OnCounterElementary.emit.Goals as goal
 
 pub returns-clause-typed : goal.returns-clause-typed
-returns-clause-typed g c = given_typed c.put_integer.result (to_z w64 (of_z w64 c.next_count.result)) c.put_integer.new.words c.put_integer.ensures
+returns-clause-typed g c = given_typed c.put_integer.result (to_z w64 (of_z w64 c.next_count.result)) c.put_integer.new.words c.put_integer.ensures.value
 
 pub returns-clause-gives : goal.returns-clause-gives
 returns-clause-gives g c h history later stands =
@@ -18,4 +18,4 @@ returns-clause-gives g c h history later stands =
 pub returns-clause-lacks : goal.returns-clause-lacks
 returns-clause-lacks g c =
     let z : to_z w64 (of_z w64 c.next_count.result) ≡ c.next_count.result = grind (arith, to_z-of_z) in
-    lacks_count c.put_integer.result (to_z w64 (of_z w64 c.next_count.result)) c.args.self.now.start c.read.result.count c.read.result.trigger c.read.result.reset c.args.ins.now c.put_integer.new.words (z ∙ c.next_count.ensures.value) c.next_count.ensures.start (rw c.read.ensures.count (c.requires.sound.2.each 0 (omega arith))) c.put_integer.ensures
+    lacks_count c.put_integer.result (to_z w64 (of_z w64 c.next_count.result)) c.args.self.now.start c.read.result.count c.read.result.trigger c.read.result.reset c.args.ins.now c.put_integer.new.words (z ∙ c.next_count.ensures.value) c.next_count.ensures.start (rw c.read.ensures.count (c.requires.sound.2.each 0 (omega arith))) c.put_integer.ensures.value
