@@ -1,4 +1,3 @@
-pub mod Built
 pub mod Edges
 pub mod Memory
 pub mod Counter

@@ -6,11 +6,11 @@ ghost use Rattle.cdl_values.proofs.Laws.{by_all};
 ghost use Rattle.cdl_kinds.specs.Meaning.Integers.{counted, on_counter};
 ghost use Rattle.cdl_blocks.specs.Counter.{count_next};
 
-use cdl_values::words::{bit, is_on, put_integer, put_three, read};
 use cdl_kinds::{Elementary, Steps};
-use cdl_values::NoValue;
 use cdl_memoryless::Whole;
 use cdl_timed::checks::holds_count;
+use cdl_values::NoValue;
+use cdl_values::words::{bit, is_on, put_integer, put_three, read};
 use std::sync::ledger::Ledger;
 
 // The count, and both inputs at the last tick.

@@ -7,10 +7,10 @@ ghost use Rattle.cdl_kinds.specs.Meaning.Edges.{edge, pre};
 ghost use Rattle.cdl_blocks.specs.Edges.{edge_function};
 
 use crate::seen::Seen;
-use cdl_values::words::{bit, is_on, put_one};
 use cdl_kinds::{Elementary, Steps};
-use cdl_values::NoValue;
 use cdl_timed::checks::holds_boolean;
+use cdl_values::NoValue;
+use cdl_values::words::{bit, is_on, put_one};
 use std::sync::ledger::Ledger;
 
 /// What an edge looks for.

@@ -8,10 +8,10 @@ ghost use Rattle.cdl_kinds.specs.Meaning.Reals.{remembered, remembering};
 ghost use Rattle.cdl_blocks.specs.Rules.{rule_direct, rule_function, rule_inputs};
 
 use cdl_decimal::Real;
-use cdl_values::words::{bit, is_on, put_one, read_real};
 use cdl_kinds::{Elementary, Steps};
-use cdl_values::NoValue;
 use cdl_timed::checks::holds_boolean;
+use cdl_values::NoValue;
+use cdl_values::words::{bit, is_on, put_one, read_real};
 use std::sync::ledger::Ledger;
 
 /// What is compared. Where it held before, it holds on for as much as the hysteresis beyond.

@@ -5,11 +5,11 @@ ghost use Rattle.cdl_values.specs.History.{AreValues, before, integers, typed, w
 ghost use Rattle.cdl_values.proofs.Laws.{by_all};
 ghost use Rattle.cdl_kinds.specs.Meaning.Integers.{changes, integer_change};
 
-use cdl_values::words::{bit, put_one, put_three, read};
 use cdl_kinds::{Elementary, Steps};
-use cdl_values::NoValue;
 use cdl_memoryless::Whole;
 use cdl_timed::checks::holds_integer;
+use cdl_values::NoValue;
+use cdl_values::words::{bit, put_one, put_three, read};
 use std::sync::ledger::Ledger;
 
 // The input at the last tick.

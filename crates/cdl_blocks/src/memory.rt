@@ -5,10 +5,10 @@ ghost use Rattle.cdl_values.specs.History.{AreValues, before, bit, booleans, is_
 ghost use Rattle.cdl_values.proofs.Laws.{by_all};
 ghost use Rattle.cdl_blocks.specs.Memory.{memory, memory_meaning, memory_next, memory_started};
 
-use cdl_values::words::{bit, is_on, put_one, put_two};
 use cdl_kinds::{Elementary, Steps};
-use cdl_values::NoValue;
 use cdl_timed::checks::holds_booleans;
+use cdl_values::NoValue;
+use cdl_values::words::{bit, is_on, put_one, put_two};
 use std::sync::ledger::Ledger;
 
 /// What becomes of the output where the first input starts.

@@ -1,8 +1,9 @@
 -- The window of a moving mean, a tick further.
-use Rattle.std.proofs.Common.{ℕ, zero, suc, ◌+◌, ◌-◌, ◌++◌, ◌⊎◌, replicate, ◌<◌, ◌≤◌, ◌≡◌, ◌∙◌, ap, inl, inr, refl, sym, subst, ℤ, List, [], ◌∷◌, Bool, true, false, cond, not, ◌&&◌, ◌||◌, Option, Some, length, min, drop, take, arith}
+use Rattle.std.proofs.Common.{ℕ, zero, suc, ◌+◌, ◌-◌, ◌++◌, ◌⊎◌, replicate, add-one, ◌<◌, ◌≤◌, ◌≡◌, ◌∙◌, ap, inl, inr, refl, sym, subst, ℤ, List, [], ◌∷◌, Bool, true, false, cond, not, ◌&&◌, ◌||◌, Option, Some, length, min, drop, take, arith}
 use Rattle.std.specs.Prelude.{pos, negsuc, ◌+ℤ◌, ◌≤ℤ◌, slice_set, unsigned_abs}
 use Rattle.std.specs.Ordering.{int_eq}
 use Rattle.std.proofs.lemmas.Int.{ints}
+use Rattle.std.proofs.Math.Seq.{drop-cons}
 use Rattle.std.proofs.lemmas.List.{get_or-take, length-take, take_all}
 use Rattle.cdl_decimal.specs.Counts.{real_mean, total}
 use Rattle.cdl_decimal.specs.Near.{InRange, in_range, near}
@@ -65,7 +66,7 @@ mean_gives n now r s x y h l i e m k =
 count_of : (n : ℕ) (b : Bool) (u : ℤ) (us : List ℤ) (c k : ℕ) → c ≡ length (take n us) → k ≡ cond b (min (c + 1) n) c → pos k ≡ pos (length (take n (cond b (u ∷ us) us)))
 count_of n true u us c k e f =
     let a : length (take n us) ≡ min n (length us) = length-take n us in
-    let d : length (take n (u ∷ us)) ≡ min n (length us + 1) = length-take n (u ∷ us) in
+    let d : length (take n (u ∷ us)) ≡ min n (suc (length us)) = length-take n (u ∷ us) in
     ap pos (omega arith)
 count_of n false u us c k e f = ap pos (f ∙ e)
 
@@ -143,3 +144,48 @@ mean_sound n s (t ∷ h) l i e =
       spare = refl;
       samples = padded_reals n (picked (t ∷ h)) (picked_reals (t ∷ h) (omega arith) refl i);
     })
+
+pub total_step : (xs : List ℤ) (i : ℕ) (s r : ℤ) → i < length xs → s +ℤ total (drop i xs) ≡ total xs → r ≡ s +ℤ word xs i → r +ℤ total (drop (i + 1) xs) ≡ total xs
+total_step xs i s r l so_far e =
+    let d : drop i xs ≡ word xs i ∷ drop (suc i) xs = drop-cons xs i (pos 0) l in
+    let t : s +ℤ (word xs i +ℤ total (drop (suc i) xs)) ≡ total xs = rw d at so_far in
+    rw (add-one, e) (omega (arith, ints))
+
+pushed_each : (n : ℕ) (u : ℤ) (d : List ℤ) → InRange u → AreValues (reals n) d → (i : ℕ) → i < n → InRange (word (u ∷ d) i)
+pushed_each n u d r v zero l = r
+pushed_each n u d r v (suc i) l = v.each i (omega arith)
+
+pushed_reals : (n : ℕ) (u : ℤ) (d : List ℤ) → InRange u → AreValues (reals n) d → AreValues (reals n) (take n (u ∷ d))
+pushed_reals n u d r v = record {
+  size = let e : length (take n (u ∷ d)) ≡ min n (suc (length d)) = length-take n (u ∷ d) in omega (arith, v.size);
+  each = λ i l. rw (get_or-take n (u ∷ d) i (pos 0) l) (pushed_each n u d r v i l);
+}
+
+kept_by : (n c k : ℕ) (p : Bool) (t u : ℤ) (d y : List ℤ) → 0 < n → c ≤ n → (p ≡ false → 0 < c) → IsValue Boolean t → InRange u → AreValues (reals n) d → k ≡ cond p (min (c + 1) n) c → y ≡ t ∷ pos k ∷ pos 0 ∷ cond p (take n (u ∷ d)) d → IsMeanState n y
+kept_by n c k true t u d y l m f b r v e g =
+    let w : AreValues (reals n) (take n (u ∷ d)) = pushed_reals n u d r v in
+    rw g (record { size = omega (arith, w.size); count = inr (b, omega (arith, ints), omega (arith, ints)); spare = refl; samples = w })
+kept_by n c k false t u d y l m f b r v e g =
+    let s : 0 < c = f refl in
+    rw g (record { size = omega (arith, v.size); count = inr (b, omega (arith, ints), omega (arith, ints)); spare = refl; samples = v })
+
+pub mean_kept : (n c k : ℕ) (b t p : Bool) (s x y : List ℤ) → 0 < n → IsMeanState n s → AreValues (typed (Real ∷ Boolean ∷ [])) x → b ≡ has_ticks (word s 0) → t ≡ is_on (word s 0) → c ≡ unsigned_abs (word s 1) → p ≡ (not b || (is_on (word x 1) && not t))
+    → k ≡ cond p (min (c + 1) n) c → y ≡ word x 1 ∷ pos k ∷ pos 0 ∷ cond p (take (length s - 3) (word x 0 ∷ drop 3 s)) (drop 3 s) → IsMeanState n y
+mean_kept n c k b t p s x y l m v e f g h j q =
+    let i : p ≡ picks_now (word s 0) x = rw (h, e, f) refl in
+    let a : c ≤ n = rw g (count_in n (word s 0) (word s 1) m.count) in
+    let z : length s - 3 ≡ n = omega (arith, m.size) in
+    kept_by n c k p (word x 1) (word x 0) (drop 3 s) y l a (λ o. rw g (count_some n (word s 0) (word s 1) x m.count (sym i ∙ o))) (v.each 1 (omega arith)) (v.each 0 (omega arith)) m.samples j (rw z at q)
+
+pub mean_stands_by : (n c k : ℕ) (now : ℤ) (b t p : Bool) (s x y : List ℤ) (h : History) → 0 < n → length s ≡ n + 3 → IsHistory (typed (Real ∷ Boolean ∷ [])) (triggered_moving_mean n) h → s ≡ mean_words n h → b ≡ has_ticks (word s 0) → t ≡ is_on (word s 0) → c ≡ unsigned_abs (word s 1)
+    → p ≡ (not b || (is_on (word x 1) && not t)) → k ≡ cond p (min (c + 1) n) c → y ≡ word x 1 ∷ pos k ∷ pos 0 ∷ cond p (take (length s - 3) (word x 0 ∷ drop 3 s)) (drop 3 s) → y ≡ mean_words n (tick now x ∷ h)
+mean_stands_by n c k now b t p s x y h l m i w e f g o j q =
+    let a : p ≡ picks_now (word s 0) x = rw (o, e, f) refl in
+    let z : length s - 3 ≡ n = omega (arith, m) in
+    mean_stands n c k now s x y h l i w g (rw a at j) (rw (z, a) at q)
+
+-- the words before the first tick
+pub start_sound : (n m : ℕ) (a b : List ℤ) → 0 < n → a ≡ negsuc 0 ∷ pos 0 ∷ pos 0 ∷ [] → b ≡ padded m [] → m ≡ n → IsMeanState n (a ++ b)
+start_sound n m a b l e f g =
+    let w : negsuc 0 ∷ pos 0 ∷ pos 0 ∷ padded n [] ≡ mean_words n [] = ap (λ (z : ℤ). negsuc 0 ∷ z ∷ pos 0 ∷ padded n []) (sym (none_picked n)) in
+    rw (e, f, g) (mean_sound n (negsuc 0 ∷ pos 0 ∷ pos 0 ∷ padded n []) [] l (record { ticks = tt }) w)

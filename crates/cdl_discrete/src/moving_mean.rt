@@ -1,5 +1,5 @@
 // The mean of what a trigger picked last.
-ghost use Rattle.std.specs.Prelude.{◌≡◌, ◌&&◌, ◌||◌, ◌+◌, ◌*◌, ◌+ℤ◌, ◌≤ℤ◌, ◌<◌, ◌≤◌, ◌↔◌, IsTrue, ℕ, Some, [], ◌∷◌, cond, drop, length, min, not, pos, refl, take, unsigned_abs};
+ghost use Rattle.std.specs.Prelude.{◌≡◌, ◌&&◌, ◌||◌, ◌+◌, ◌-◌, ◌*◌, ◌+ℤ◌, ◌≤ℤ◌, ◌<◌, ◌≤◌, ◌↔◌, IsTrue, ℕ, Some, [], ◌∷◌, cond, drop, length, min, not, pos, refl, take, unsigned_abs};
 ghost use Rattle.cdl_decimal.specs.Counts.{real_mean, total};
 ghost use Rattle.cdl_decimal.specs.Near.{InRange};
 ghost use Rattle.cdl_values.specs.declared.value.ValueType.TheVariants.{Boolean, Real as RealType};
@@ -16,7 +16,19 @@ use cdl_values::NoValue;
 use cdl_values::words::{is_on, put_one, put_three, read, read_real};
 use std::sync::ledger::Ledger;
 
+// The sum with the count in that place.
+fn next_sum(sum: i128, counts: &[i64], i: usize) -> i128
+    requires within { i < length counts.now }
+    requires range { InRange (word counts.now i) }
+    requires small { unsigned_abs sum ≤ 20000000000000000000 }
+    ensures value { result ≡ sum +ℤ word counts.now i }
+    ensures small { unsigned_abs result ≤ unsigned_abs sum + 10000000000000000 }
+{
+    sum + read_real(counts, i).count() as i128
+}
+
 // The sum of counts, in full.
+#[tactic(auto, using(crate::proofs::WindowLaws::total_step))]
 fn sum_of(counts: &[i64]) -> i128
     requires few { length counts.now ≤ 1024 }
     requires range { (i : ℕ) → i < length counts.now → InRange (word counts.now i) }
@@ -25,7 +37,7 @@ fn sum_of(counts: &[i64]) -> i128
 {
     let mut sum: i128 = 0;
     for i in 0..counts.len() {
-        sum += read_real(counts, i).count() as i128;
+        sum = next_sum(sum, counts, i);
     }
     sum
 }
@@ -141,6 +153,18 @@ fn held(state: &[i64], count: usize) -> &[i64]
     &samples[..count]
 }
 
+// Keeps the trigger, the count, and the input in front where it is picked.
+fn keep(state: &mut [i64], ins: &[i64], picked: bool, count: usize)
+    requires state { 3 < length state.old }
+    requires ins { length ins.now ≡ 2 }
+    requires count { count ≤ 1024 }
+    ensures { state.new ≡ word ins.now 1 ∷ pos count ∷ pos 0 ∷ cond picked (take (length state.old - 3) (word ins.now 0 ∷ drop 3 state.old)) (drop 3 state.old) }
+{
+    let (head, samples) = state.split_at_mut(3);
+    push_if(samples, picked, read(ins, 0));
+    put_three(head, read(ins, 1), count as i64, 0);
+}
+
 /// The mean of the last of its first input at the first tick and at those at which its second rose: of as many as its size
 /// says, or of all where there are fewer.
 #[derive(Clone, Copy, Drop)]
@@ -250,9 +274,7 @@ impl Elementary for TriggeredMovingMean {
         let window = Window::read(state);
         let picked = window.picks(ins);
         let count = window.next_count(self.size, picked);
-        let (head, samples) = state.split_at_mut(3);
-        push_if(samples, picked, read(ins, 0));
-        put_three(head, read(ins, 1), count as i64, 0);
+        keep(state, ins, picked, count);
     }
 
     ghost direct_only = { by_all (λ b. triggered_moving_mean b.size) (typed (RealType ∷ Boolean ∷ [])) (λ _. refl) };

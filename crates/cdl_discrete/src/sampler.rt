@@ -7,12 +7,12 @@ ghost use Rattle.cdl_kinds.specs.Meaning.Discrete.{first_or, interval, sampled, 
 ghost use Rattle.cdl_kinds.specs.States.{IsIntervalUpTo, IsSamplerState, last_interval};
 ghost use Rattle.cdl_discrete.specs.Samples.{at_sample};
 
-use cdl_timed::checks::is_real;
 use crate::intervals::{interval, is_interval};
 use cdl_decimal::Real;
-use cdl_values::words::{put_one, put_two, read};
 use cdl_kinds::{Elementary, Steps};
+use cdl_timed::checks::is_real;
 use cdl_values::NoValue;
+use cdl_values::words::{put_one, put_two, read};
 use std::sync::ledger::Ledger;
 
 // The sample interval of the last tick, -1 before any, and the last sample.

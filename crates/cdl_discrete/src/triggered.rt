@@ -9,11 +9,11 @@ ghost use Rattle.cdl_values.specs.Extremes.{greater_of, greatest};
 ghost use Rattle.cdl_kinds.specs.States.{has_begun};
 ghost use Rattle.cdl_discrete.specs.Samples.{catch_next, greatest_next};
 
-use cdl_timed::checks::{holds_begun_sample, holds_sample};
 use cdl_decimal::Real;
-use cdl_values::words::{bit, is_on, put_one, put_three, put_two, read};
 use cdl_kinds::{Elementary, Steps};
+use cdl_timed::checks::{holds_begun_sample, holds_sample};
 use cdl_values::NoValue;
+use cdl_values::words::{bit, is_on, put_one, put_three, put_two, read};
 use std::sync::ledger::Ledger;
 
 // The trigger at the last tick, and what was caught.

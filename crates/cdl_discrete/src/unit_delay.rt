@@ -7,12 +7,12 @@ ghost use Rattle.cdl_kinds.specs.Meaning.Discrete.{first_or, interval, sampled, 
 ghost use Rattle.cdl_kinds.specs.States.{IsIntervalUpTo, IsUnitDelayState, last_interval};
 ghost use Rattle.cdl_discrete.specs.Samples.{at_sample, second_sample};
 
-use cdl_timed::checks::is_real_at;
 use crate::intervals::{interval, is_interval};
 use cdl_decimal::Real;
-use cdl_values::words::{put_one, put_three, read};
 use cdl_kinds::{Elementary, Steps};
+use cdl_timed::checks::is_real_at;
 use cdl_values::NoValue;
+use cdl_values::words::{put_one, put_three, read};
 use std::sync::ledger::Ledger;
 
 // The sample interval of the last tick, -1 before any, and the last two samples.
@@ -131,8 +131,7 @@ impl Elementary for UnitDelay {
 
     fn sound(&self, state: &[i64], last: i64) -> bool {
         let _range = self.start.count();
-        is_interval(self.period, read(state, 0), last)
-            && are_reals(state)
+        is_interval(self.period, read(state, 0), last) && are_reals(state)
     }
 
     fn emit<L: Ledger>(

@@ -10,9 +10,9 @@ ghost use Rattle.cdl_timed.specs.Sums.{HasSum, IsSum, sum_next};
 use crate::checks::{is_boolean_at, is_time};
 use crate::times::{elapsed, put_four, put_timed};
 use cdl_decimal::Real;
-use cdl_values::words::{bit, is_on, read};
 use cdl_kinds::{Elementary, Steps};
 use cdl_values::NoValue;
+use cdl_values::words::{bit, is_on, read};
 use std::sync::ledger::Ledger;
 
 // The time that was added up, the time of the last tick or -1 before any, and both inputs there.

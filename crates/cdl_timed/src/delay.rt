@@ -9,9 +9,9 @@ ghost use Rattle.cdl_timed.specs.Runs.{IsRun, run_next, time_of};
 use crate::checks::{is_boolean, is_time};
 use crate::times::{elapsed, put_flag, read_time, run_next, time_word};
 use cdl_decimal::Real;
-use cdl_values::words::{bit, is_on, put_two, read};
 use cdl_kinds::{Elementary, Steps};
 use cdl_values::NoValue;
+use cdl_values::words::{bit, is_on, put_two, read};
 use std::sync::ledger::Ledger;
 
 // When the run of true inputs began that the last tick ended, and whether the input was true at every tick.

@@ -11,9 +11,9 @@ ghost use Rattle.cdl_timed.specs.Runs.{IsRun, time_of};
 use crate::checks::{is_boolean, is_time};
 use crate::times::{elapsed, put_flag, read_time, time_word};
 use cdl_decimal::Real;
-use cdl_values::words::{bit, is_on, put_two, read};
 use cdl_kinds::{Elementary, Steps};
 use cdl_values::NoValue;
+use cdl_values::words::{bit, is_on, put_two, read};
 use std::sync::ledger::Ledger;
 
 // The output at the last tick, and when it changed last; no time before any tick.

@@ -10,9 +10,9 @@ ghost use Rattle.cdl_timed.specs.Runs.{IsRun, run_next, time_of};
 use crate::checks::is_time;
 use crate::times::{put_timed, read_time, run_length, run_next, time_word};
 use cdl_decimal::Real;
-use cdl_values::words::{is_on, put_two, read};
 use cdl_kinds::{Elementary, Steps};
 use cdl_values::NoValue;
+use cdl_values::words::{is_on, put_two, read};
 use std::sync::ledger::Ledger;
 
 // When the run of true inputs began that the last tick ended.

@@ -20,5 +20,5 @@ returns-clause-stands c h stands history =
     let z : to_z w64 (of_z w64 c.kept.result) ≡ c.kept.result = grind (arith, to_z-of_z) in
     let r : to_z w64 (of_z w64 c.next_count.result) ≡ c.next_count.result = grind (arith, to_z-of_z) in
     let e : c.next_count.result ≡ counted c.args.self.now.start (tick c.args._now c.args.ins.now ∷ h) =
-        count_further c.args.self.now.start c.args._now c.args.state.now c.args.ins.now h c.read-last.result.count c.next_count.result c.read-last.result.trigger c.read-last.result.reset c.next_count.ensures.value c.read-last.ensures.count c.read-last.ensures.trigger c.read-last.ensures.reset stands in
+    count_further c.args.self.now.start c.args._now c.args.state.now c.args.ins.now h c.read-last.result.count c.next_count.result c.read-last.result.trigger c.read-last.result.reset c.next_count.ensures.value c.read-last.ensures.count c.read-last.ensures.trigger c.read-last.ensures.reset stands in
     counter_stands c.args.self.now.start c.args._now c.args.ins.now c.write.new.state h _ _ c.is_on.result c.is_on-2.result c.requires.ready c.write.ensures (λ l. z ∙ c.kept.ensures.same l) c.is_on.ensures c.is_on-2.ensures (r ∙ e) history.ticks.3

@@ -12,7 +12,7 @@ returns-clause-typed g c = given_typed c.put_integer.result (to_z w64 (of_z w64 
 pub returns-clause-gives : goal.returns-clause-gives
 returns-clause-gives g c h history later stands =
     let e : c.next_count.result ≡ counted c.args.self.now.start (tick c.args._now c.args.ins.now ∷ h) =
-        count_further c.args.self.now.start c.args._now c.args.state.now c.args.ins.now h c.read.result.count c.next_count.result c.read.result.trigger c.read.result.reset c.next_count.ensures.value c.read.ensures.count c.read.ensures.trigger c.read.ensures.reset stands in
+    count_further c.args.self.now.start c.args._now c.args.state.now c.args.ins.now h c.read.result.count c.next_count.result c.read.result.trigger c.read.result.reset c.next_count.ensures.value c.read.ensures.count c.read.ensures.trigger c.read.ensures.reset stands in
     grind (arith, to_z-of_z, e)
 
 pub returns-clause-lacks : goal.returns-clause-lacks
