@@ -11,8 +11,8 @@ ghost use Rattle.cdl_blocks.specs.AtOnce.{at_once};
 
 use crate::memoryless::Memoryless;
 use cdl_decimal::{Real, weighted_sum};
-use cdl_values::words::{put_one, put_real, read_real};
 use cdl_kinds::Params;
+use cdl_values::words::{put_one, put_real, read_real};
 use cdl_values::{NoValue, Value};
 
 // The factors: the items of the second parameter.

@@ -5,10 +5,10 @@ ghost use Rattle.cdl_table.specs.Values.{AreValues, HaveValues};
 
 use cdl_flat::{Flat, Part, Runner};
 use cdl_kinds::{Steps, find};
-use cdl_values::ValueType;
 use cdl_source::{List, Span, Text};
 use cdl_table::Table;
 use cdl_tree::{Connect, Dim, Ident, Item, Name, Part as Step, Prefix, Ref, Sub};
+use cdl_values::ValueType;
 use std::alloc::Global;
 use std::marker::Brand;
 use std::sync::ledger::{Blank, Ledger};

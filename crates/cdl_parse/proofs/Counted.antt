@@ -46,8 +46,15 @@ enumeration_has n is w = search (rules, class_lemmas)
 mutual
   class_counted : {w : Word} {t : ClassTree} {ends : List Closing} → ClassOf w t ends → names_of_class t ≤ length w
   class_counted (a_block b n e m {u} {v} {w} {xs} {ss} h i t p q j k) =
-      omega (arith, block_has (the_ident n) xs ss (b ∷ n ∷ (u ++ (v ++ (w ++ e ∷ m ∷ [])))), block_parts_counted p, equation_counted q,
-      length-append u (v ++ (w ++ e ∷ m ∷ [])), length-append v (w ++ e ∷ m ∷ []), length-append w (e ∷ m ∷ []))
+      omega (
+        arith,
+        block_has (the_ident n) xs ss (b ∷ n ∷ (u ++ (v ++ (w ++ e ∷ m ∷ [])))),
+        block_parts_counted p,
+        equation_counted q,
+        length-append u (v ++ (w ++ e ∷ m ∷ [])),
+        length-append v (w ++ e ∷ m ∷ []),
+        length-append w (e ∷ m ∷ []),
+      )
   class_counted (a_package p n e m {u} {v} {ts} {xs} h i t q j k) =
       omega (arith, package_has (the_ident n) ts xs (p ∷ n ∷ (u ++ (v ++ e ∷ m ∷ []))), package_counted q, length-append u (v ++ e ∷ m ∷ []), length-append v (e ∷ m ∷ []))
   class_counted (an_enumeration t n q f a b {v} {w} {is} h i j k l x m y) =

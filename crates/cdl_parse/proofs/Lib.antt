@@ -6,3 +6,4 @@ pub mod Longest
 pub mod Top
 pub mod Formed
 pub mod Counted
+pub mod Verdicts

@@ -20,7 +20,7 @@ use cdl_lex::Tokens;
 use cdl_reading::{Cursor, Fault};
 use cdl_source::Place;
 use cdl_tree::FileTree;
-pub use law::one_tree;
+pub use law::{one_tree, one_verdict};
 use std::alloc::Global;
 
 /// Why tokens have no tree.

@@ -5,11 +5,11 @@ ghost use Rattle.cdl_scopes.specs.Classes.{declared};
 
 use cdl_classes::{ClassFault, ClassId, ClassTable, Found, ValueFound};
 use cdl_kinds::find;
-use cdl_values::ValueType;
 use cdl_lex::lex;
 use cdl_parse::parse;
 use cdl_source::{List, Place, Span, Text};
 use cdl_tree::{FileTree, Ident, Name};
+use cdl_values::ValueType;
 use std::alloc::Global;
 use std::test::Fail;
 
