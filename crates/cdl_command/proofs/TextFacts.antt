@@ -1,11 +1,9 @@
 -- From the bytes of a model to its tree, or to the rule that it breaks first.
-use Rattle.std.proofs.Common.{◌≡◌, ◌∙◌, ◌≤◌, ◌<◌, ℕ, List, [], ◌∷◌, ◌++◌, length, take, Option, Some, None, Ok, Err, refl, sym, subst, inl, inr, length-append, arith}
+use Rattle.std.proofs.Common.{◌≡◌, ◌∙◌, ◌≤◌, ◌<◌, ℕ, List, length, take, Ok, Err, refl, sym, subst, inl, arith}
 use Rattle.std.proofs.lemmas.List.{take_all}
-use Rattle.std.proofs.Math.Seq.{take-append_seam}
 use Rattle.cdl_source.specs.Place.{line_of, column_of}
 use Rattle.cdl_source.specs.Outside.{told, IsAbsent}
 use Rattle.cdl_source.specs.Whole.{KeepsHead, FaultIsAnswered as ReadFaultIsAnswered}
-use Rattle.cdl_source.specs.declared.place.Place.{Place}
 use Rattle.cdl_source.specs.declared.place.Token.{Token}
 use Rattle.cdl_source.specs.declared.whole.ReadError.{ReadError}
 use Rattle.cdl_source.specs.declared.whole.ReadError.TheVariants.{Failed, TooLarge, OutOfMemory}
@@ -14,13 +12,11 @@ use Rattle.cdl_lex.specs.Splits.{Splits}
 use Rattle.cdl_lex.specs.TokenList.{TokenList, longest_text}
 use Rattle.cdl_tree.specs.declared.class.FileTree.{FileTree}
 use Rattle.cdl_tree.specs.Terminals.{lexemes}
-use Rattle.cdl_parse.specs.Verdict.{Closes, IsTree, IsRefused}
+use Rattle.cdl_parse.specs.Verdict.{Closes, IsTree}
 use Rattle.cdl_reading.specs.Reading.{word_of}
-use Rattle.cdl_parse.specs.declared.ParseFault.TheVariants.{Rule}
-use Rattle.cdl_command.specs.inner.Reads.{stop_of, IsShortHead}
+use Rattle.cdl_command.specs.inner.Reads.{stop_of}
 use Rattle.cdl_command.specs.inner.Stops.{FaultIsAnswered, Stops, RefusesText, refusal_at}
-use Rattle.cdl_command.specs.Texts.{Contents, Holds, IsTreeOf, HasTree, BreaksText}
-use Rattle.cdl_command.specs.declared.stop.Refusal.{Refusal}
+use Rattle.cdl_command.specs.Texts.{Contents, IsTreeOf, HasTree}
 use Rattle.cdl_command.proofs.ReadFacts.{longer}
 
 -- the tokens that were found close into the tree
