@@ -17,8 +17,8 @@ pub fn bit(b: bool) -> i64
     if b { 1 } else { 0 }
 }
 
-/// Whether the word is that of true.
-pub fn is_one(w: i64) -> bool
+// Whether the word is that of true.
+fn is_one(w: i64) -> bool
     ensures { result ≡ is_on w }
 {
     w == 1
