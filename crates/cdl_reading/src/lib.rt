@@ -3,6 +3,8 @@
 
 mod cursor;
 mod law;
+mod lists;
 
 pub use cursor::{Cursor, Fault};
 pub use law::spelled_words;
+pub use lists::{list, list_behind};
