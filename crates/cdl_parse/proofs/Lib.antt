@@ -4,3 +4,6 @@ pub mod ClassLaws
 pub mod FileLaws
 pub mod Longest
 pub mod Top
+pub mod Formed
+pub mod Counted
+pub mod Verdicts

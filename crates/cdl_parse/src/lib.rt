@@ -1,10 +1,12 @@
 //! The trees of files: the grammar's one tree of a list of tokens, or the exact place at which no sentence goes on.
 #![tactic(auto)]
 
-ghost use Rattle.std.specs.Prelude.{◌≡◌, IfOk, IfErr};
+ghost use Rattle.std.specs.Prelude.{◌≡◌, ◌≤◌, true, length, IfOk, IfErr};
 ghost use Rattle.cdl_parse.specs.declared.ParseFault.TheVariants.{Rule};
 ghost use Rattle.cdl_tree.specs.declared.class.FileTree.{FileTree as Tree};
+ghost use Rattle.cdl_tree.specs.FormedFiles.{formed_file};
 ghost use Rattle.cdl_reading.specs.Reading.{word_of};
+ghost use Rattle.cdl_parse.specs.Names.{names_of_file};
 ghost use Rattle.cdl_parse.specs.Verdict.{Closes, IsTree, IsRefused, begin_of};
 
 mod class;
@@ -18,7 +20,7 @@ use cdl_lex::Tokens;
 use cdl_reading::{Cursor, Fault};
 use cdl_source::Place;
 use cdl_tree::FileTree;
-pub use law::one_tree;
+pub use law::{one_tree, one_verdict};
 use std::alloc::Global;
 
 /// Why tokens have no tree.
@@ -47,6 +49,10 @@ const WRONG_NAME: u32 = 8;
 pub fn parse(alloc: Global, tokens: &Tokens) -> Result<FileTree, ParseFault>
     // The tree that is given derives the tokens, and the identifiers behind `end` are right.
     ensures found { IfOk result (λ tree. Closes (word_of tokens.now) tree) }
+    // It is formed: its identifiers are identifiers, its literals are not negative and fit, its strings are UTF-8, and so on.
+    ensures formed { IfOk result (λ tree. formed_file tree ≡ true) }
+    // It has at most as many names as there are tokens.
+    ensures few { IfOk result (λ tree. names_of_file tree ≤ length tokens.now.items) }
     // A tree that derives the tokens, with right identifiers behind `end`, is the one that is given, unless memory fails.
     ensures only { (tree : Tree) → Closes (word_of tokens.now) tree → IsTree tree result }
     // Tokens that are refused are no sentence, and the place is exact; or the first wrong identifier is named.
