@@ -158,7 +158,16 @@ fn each_kind_follows_its_history(rt: HostRuntime) -> Result<(), Fail> {
             let want = numbers(alloc, outs)?;
             let (now, ins) = tick.as_slice().split_first().ok_or("no time")?;
             assert!(rt;
-                gives(kind, &params, &block, state, last, *now, ins, want.as_slice()),
+                gives(
+                    kind,
+                    &params,
+                    &block,
+                    state,
+                    last,
+                    *now,
+                    ins,
+                    want.as_slice()
+                ),
                 "{row}: {cell}"
             );
             last = *now;

@@ -1,5 +1,6 @@
 // A counter of rising inputs.
 ghost use Rattle.std.specs.Prelude.{◌≡◌, ◌≤◌, [], ◌∷◌, cond, length, pos, refl, true, unsigned_abs};
+ghost use Rattle.cdl_source.specs.declared.limits.TheConstants.{LARGEST_INTEGER};
 ghost use Rattle.cdl_values.specs.declared.value.ValueType.TheVariants.{Boolean, Integer};
 ghost use Rattle.cdl_values.specs.History.{AreValues, before, bit, integers, is_on, typed, word};
 ghost use Rattle.cdl_values.proofs.Laws.{by_all};
@@ -23,9 +24,9 @@ struct Counted {
 
 // The count, or the one before where it is out of the range of Integers.
 fn kept(count: i64, last: i64) -> i64
-    requires { unsigned_abs last ≤ 2147483647 }
-    ensures small { unsigned_abs result ≤ 2147483647 }
-    ensures same { unsigned_abs count ≤ 2147483647 → result ≡ count }
+    requires { unsigned_abs last ≤ LARGEST_INTEGER }
+    ensures small { unsigned_abs result ≤ LARGEST_INTEGER }
+    ensures same { unsigned_abs count ≤ LARGEST_INTEGER → result ≡ count }
 {
     if -2_147_483_647 <= count && count <= 2_147_483_647 {
         count
@@ -57,10 +58,10 @@ impl Counted {
 
     // The count at a tick, which may be out of range.
     fn next_count(self, start: Whole, ins: &[i64]) -> i64
-        requires small { unsigned_abs self.count ≤ 2147483647 }
+        requires small { unsigned_abs self.count ≤ LARGEST_INTEGER }
         requires ins { length ins.now ≡ 2 }
         ensures value { result ≡ count_next start self.count self.trigger self.reset ins.now }
-        ensures start { unsigned_abs start ≤ 2147483647 }
+        ensures start { unsigned_abs start ≤ LARGEST_INTEGER }
     {
         let start = start.value() as i64;
         if is_on(ins, 1) && !self.reset {

@@ -1,5 +1,6 @@
 // Blocks of Integers, and comparisons of them.
 ghost use Rattle.std.specs.Prelude.{◌≡◌, ◌≤◌, ◌*ℤ◌, [], ◌∷◌, unsigned_abs, ◌^◌, ◌<◌};
+ghost use Rattle.cdl_source.specs.declared.limits.TheConstants.{LARGEST_INTEGER};
 ghost use Rattle.cdl_values.specs.declared.value.ValueType.TheVariants.{Integer};
 ghost use Rattle.cdl_values.specs.History.{booleans, integers, typed};
 ghost use Rattle.cdl_kinds.specs.Meaning.Integers.{compare, compare_threshold, integer_of_two};
@@ -37,8 +38,8 @@ pub(crate) fn lesser(a: i64, b: i64) -> i64
 }
 
 fn product(a: i64, b: i64) -> i64
-    requires left { unsigned_abs a ≤ 2147483647 }
-    requires right { unsigned_abs b ≤ 2147483647 }
+    requires left { unsigned_abs a ≤ LARGEST_INTEGER }
+    requires right { unsigned_abs b ≤ LARGEST_INTEGER }
     ensures { result ≡ a *ℤ b }
 {
     a * b
@@ -46,8 +47,8 @@ fn product(a: i64, b: i64) -> i64
 
 // The result, which may be out of the range of Integers.
 fn computed(op: IntegerOp, a: i64, b: i64) -> i64
-    requires left { unsigned_abs a ≤ 2147483647 }
-    requires right { unsigned_abs b ≤ 2147483647 }
+    requires left { unsigned_abs a ≤ LARGEST_INTEGER }
+    requires right { unsigned_abs b ≤ LARGEST_INTEGER }
     ensures { result ≡ integer_function op a b }
 {
     match op {

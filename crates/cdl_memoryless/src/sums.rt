@@ -1,5 +1,6 @@
 // Sums of many inputs, each times a factor.
 ghost use Rattle.std.specs.Prelude.{◌≡◌, ◌+◌, pos, ◌<◌, ◌≤◌, ◌+ℤ◌, ◌*ℤ◌, ℕ, ℤ, [], length, map, take, unsigned_abs, MatchResult, Some, None};
+ghost use Rattle.cdl_source.specs.declared.limits.TheConstants.{LARGEST_INTEGER};
 ghost use Rattle.cdl_decimal.specs.Counts.{dot};
 ghost use Rattle.cdl_decimal.specs.Near.{InRange};
 ghost use Rattle.cdl_values.specs.History.{integer, integers, reals, word};
@@ -49,7 +50,7 @@ fn wide_product(a: i64, b: i64) -> i128
 // The sum, and one product more.
 fn next_sum(sum: i128, factor: &Value, word: i64) -> i128
     requires sum { unsigned_abs sum ≤ 1180591620717411303424 }
-    requires word { unsigned_abs word ≤ 2147483647 }
+    requires word { unsigned_abs word ≤ LARGEST_INTEGER }
     ensures value { result ≡ sum +ℤ integer_of factor.now *ℤ word }
     ensures small { unsigned_abs result ≤ unsigned_abs sum + 4611686018427387904 }
 {
@@ -60,7 +61,7 @@ fn next_sum(sum: i128, factor: &Value, word: i64) -> i128
 fn sum_of_products(factors: &[Value], words: &[i64]) -> i128
     requires same { length factors.now ≡ length words.now }
     requires few { length words.now ≤ 256 }
-    requires range { (i : ℕ) → i < length words.now → unsigned_abs (word words.now i) ≤ 2147483647 }
+    requires range { (i : ℕ) → i < length words.now → unsigned_abs (word words.now i) ≤ LARGEST_INTEGER }
     ensures { result ≡ dot (map integer_of factors.now) words.now }
 {
     let mut sum: i128 = 0;

@@ -1,5 +1,6 @@
 // Integers.
 ghost use Rattle.std.specs.Prelude.{◌≡◌, ◌≤◌, unsigned_abs};
+ghost use Rattle.cdl_source.specs.declared.limits.TheConstants.{LARGEST_INTEGER};
 
 use std::marker::Model;
 
@@ -16,7 +17,7 @@ impl Model for Whole {
 
     ghost view = { λ w. w.value };
 
-    ghost invariant = { λ w. unsigned_abs w.value ≤ 2147483647 };
+    ghost invariant = { λ w. unsigned_abs w.value ≤ LARGEST_INTEGER };
 
     ghost inverse = { λ z. record { value = z } };
 }
@@ -24,7 +25,7 @@ impl Model for Whole {
 impl Whole {
     /// This number.
     pub fn new(value: i32) -> Whole
-        requires { unsigned_abs value ≤ 2147483647 }
+        requires { unsigned_abs value ≤ LARGEST_INTEGER }
         ensures { result ≡ value }
     {
         Whole { value }
@@ -33,7 +34,7 @@ impl Whole {
     /// The number.
     pub fn value(self) -> i32
         ensures value { result ≡ self }
-        ensures range { unsigned_abs result ≤ 2147483647 }
+        ensures range { unsigned_abs result ≤ LARGEST_INTEGER }
     {
         self.value
     }
