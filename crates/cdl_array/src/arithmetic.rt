@@ -4,7 +4,7 @@ ghost use Rattle.cdl_array.specs.Numbers as spec;
 
 use crate::numbers::{Numbers, real_of};
 use cdl_decimal::Real;
-use cdl_kinds::Value;
+use cdl_values::Value;
 use cdl_source::LARGEST_INTEGER;
 use cdl_source::rules::NO_VALUE;
 

@@ -4,7 +4,7 @@ ghost use Rattle.cdl_array.specs.Numbers as spec;
 ghost use Rattle.cdl_array.specs.Operators as operators;
 
 use crate::numbers::{Numbers, numbers_of};
-use cdl_kinds::Value;
+use cdl_values::Value;
 use cdl_source::rules::WRONG_TYPE;
 
 pub(crate) fn is_less(numbers: Numbers) -> bool

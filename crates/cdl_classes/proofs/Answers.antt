@@ -15,19 +15,19 @@ use Rattle.cdl_source.specs.declared.place.Place.{Place}
 use Rattle.std.specs.declared.alloc.Global.{Global}
 use Rattle.cdl_classes.specs.declared.found.ClassId.{ClassId}
 use Rattle.cdl_classes.specs.declared.found.ValueFound.{ValueFound}
-use Rattle.cdl_classes.specs.declared.lookup.ClassSort.{ClassSort}
-use Rattle.cdl_classes.specs.declared.lookup.ClassSort.TheVariants as sort
-use Rattle.cdl_classes.specs.declared.lookup.Sought.TheVariants.{Value}
-use Rattle.cdl_classes.specs.Classes.{Full, Declared, text_of}
-use Rattle.cdl_classes.specs.Lookup.{Entity, a_class, a_package, in_cdl, in_modelica, a_type, a_constant, a_literal, first_named_from, first_named, first_of, item_name, member_names, meaning, sort_at, sort_of}
+use Rattle.cdl_scopes.specs.declared.lookup.ClassSort.{ClassSort}
+use Rattle.cdl_scopes.specs.declared.lookup.ClassSort.TheVariants as sort
+use Rattle.cdl_scopes.specs.declared.lookup.Sought.TheVariants.{Value}
+use Rattle.cdl_scopes.specs.Classes.{Full, Declared, text_of}
+use Rattle.cdl_scopes.specs.Lookup.{Entity, a_class, a_package, in_cdl, in_modelica, a_type, a_constant, a_literal, first_named_from, first_named, first_of, item_name, member_names, meaning, sort_at, sort_of}
 use Rattle.cdl_classes.specs.Found.{value_of}
 use Rattle.cdl_classes.specs.Rules.{broken_12, class_of, class_place, if_broken, is_missing, is_none, places_from, places_in}
 use Rattle.cdl_classes.specs.Table.{IsOf, IsValue, block_of, if_block, item_of, items_at}
 use Rattle.cdl_classes.specs.inner.Kept.{AreItemClasses, classes_of}
 use Rattle.cdl_classes.specs.declared.found.Found.{Found}
-use Rattle.cdl_classes.proofs.Lists.{get_at}
-use Rattle.cdl_classes.proofs.Meaning.{Valid, yields_meaning}
-use Rattle.cdl_classes.proofs.Walk.{then_some}
+use Rattle.cdl_scopes.proofs.Lists.{get_at}
+use Rattle.cdl_scopes.proofs.Meaning.{Valid, yields_meaning}
+use Rattle.cdl_scopes.proofs.Walk.{then_some}
 
 -- ---- the members of a class by its sort
 

@@ -5,18 +5,18 @@ use Rattle.std.specs.List.{slice_get}
 use Rattle.indexmap.specs.IndexMap.{get}
 use Rattle.cdl_tree.specs.declared.class.ClassTree.{ClassTree}
 use Rattle.cdl_tree.specs.declared.class.FileTree.{FileTree}
-use Rattle.cdl_classes.specs.declared.gather.Class.{Class}
-use Rattle.cdl_classes.specs.declared.gather.Classes.{Classes}
+use Rattle.cdl_scopes.specs.declared.gather.Class.{Class}
+use Rattle.cdl_scopes.specs.declared.gather.Classes.{Classes}
 use Rattle.cdl_classes.specs.declared.found.ClassId.{ClassId}
-use Rattle.cdl_classes.specs.declared.lookup.ClassSort.{ClassSort}
-use Rattle.cdl_classes.specs.Classes.{Full, declared}
-use Rattle.cdl_classes.specs.Lookup.{first_of, sort_of}
-use Rattle.cdl_classes.specs.inner.Gathered.{tree_at}
-use Rattle.cdl_classes.specs.inner.Known.{Known}
+use Rattle.cdl_scopes.specs.declared.lookup.ClassSort.{ClassSort}
+use Rattle.cdl_scopes.specs.Classes.{Full, declared}
+use Rattle.cdl_scopes.specs.Lookup.{first_of, sort_of}
+use Rattle.cdl_scopes.specs.Gathered.{tree_at}
+use Rattle.cdl_scopes.specs.Known.{Known}
 use Rattle.cdl_classes.specs.Table.{block_of, if_block}
-use Rattle.cdl_classes.proofs.Lists.{cases_option}
-use Rattle.cdl_classes.proofs.Adding.{named}
-use Rattle.cdl_classes.proofs.Standing.{shown_at, unshown, first_is}
+use Rattle.cdl_scopes.proofs.Lists.{cases_option}
+use Rattle.cdl_scopes.proofs.Adding.{named}
+use Rattle.cdl_scopes.proofs.StandingLaws.{shown_at, unshown, first_is}
 
 block_as : (files now : List FileTree) → files ≡ now → (q : Full) (r : Option ClassId) → block_of (declared files) q ≡ r → block_of (declared now) q ≡ r
 block_as files now e q r h = sym (ap (λ (fs : List FileTree). block_of (declared fs) q) e) ∙ h

@@ -5,10 +5,11 @@ use Rattle.std.proofs.lemmas.Bool.{cases_Bool}
 use Rattle.cdl_source.specs.declared.place.Place.{Place}
 use Rattle.cdl_tree.specs.Parts.{class_name}
 use Rattle.cdl_tree.specs.declared.class.FileTree.{FileTree}
-use Rattle.cdl_classes.specs.Classes.{Declared, declared, full}
-use Rattle.cdl_classes.specs.Lookup.{in_library, IsFree, sort_of}
+use Rattle.cdl_scopes.specs.Classes.{Declared, declared, full}
+use Rattle.cdl_scopes.specs.Lookup.{in_library, IsFree, sort_of}
 use Rattle.cdl_classes.specs.Places.{not_after, soonest, least, In}
-use Rattle.cdl_classes.specs.Rules.{place, is_package, is_needed, is_type, is_taken, if_broken, taken_in, taken_of, broken_11}
+use Rattle.cdl_classes.specs.Rules.{place, is_package, is_type, is_taken, if_broken, taken_in, taken_of, broken_11}
+use Rattle.cdl_scopes.specs.Lookup.{is_needed}
 use Rattle.cdl_classes.specs.Verdict.{IsFirst}
 use Rattle.cdl_classes.proofs.MarkLaws.{self, total, trans}
 

@@ -9,10 +9,10 @@ use Rattle.cdl_tree.specs.declared.class.ClassTree.{ClassTree}
 use Rattle.cdl_tree.specs.declared.class.Item.{Item}
 use Rattle.cdl_tree.specs.Parts.{items_of}
 use Rattle.cdl_classes.specs.declared.found.Found.{Found}
-use Rattle.cdl_classes.specs.Classes.{Declared}
+use Rattle.cdl_scopes.specs.Classes.{Declared}
 use Rattle.cdl_classes.specs.inner.Kept.{AreItemClasses, classes_of}
 use Rattle.cdl_classes.proofs.Items.{mapped_some}
-use Rattle.cdl_classes.proofs.Lists.{get_pushed}
+use Rattle.cdl_scopes.proofs.Lists.{get_pushed}
 
 pub mapped_or : {A B : Type 0} (f : A → B) (xs : List A) (i : ℕ) (x : A) (other : B) → i < length xs → x ≡ get_or xs i x → get_or (map f xs) i other ≡ f x
 mapped_or f [] i x other h e = absurd (omega arith)

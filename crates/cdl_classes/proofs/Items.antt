@@ -1,38 +1,31 @@
 -- Items of the classes in turn.
 use Rattle.std.proofs.lemmas.Option.{same_Some}
-use Rattle.std.proofs.Common.{◌≡◌, ◌≤◌, ◌+◌, ◌&&◌, ℕ, zero, suc, Bool, true, false, List, [], ◌∷◌, ◌++◌, drop, length, Option, Some, None, refl, sym, ◌∙◌, ap, arith, inl, inr, codes}
+use Rattle.std.proofs.Common.{◌≡◌, ◌+◌, ◌&&◌, ℕ, Bool, true, false, List, [], ◌∷◌, ◌++◌, drop, Option, Some, None, refl, sym, ◌∙◌, ap, inl, inr, codes}
 use Rattle.std.specs.Prelude.{option_and_then, option_map, if◌then◌else◌}
 use Rattle.std.specs.List.{slice_get}
 use Rattle.std.specs.Str.{bytes_eq}
 use Rattle.cdl_source.specs.declared.place.Place.{Place}
 use Rattle.cdl_kinds.specs.declared.kind.Kind.{Kind}
 use Rattle.cdl_kinds.specs.Names.{kinds, found}
-use Rattle.cdl_kinds.specs.declared.value.ValueType.TheVariants as type
+use Rattle.cdl_values.specs.declared.value.ValueType.TheVariants as type
 use Rattle.std.proofs.lemmas.Bool.{cases_Bool}
 use Rattle.cdl_tree.specs.declared.class.Item.{Item}
 use Rattle.cdl_tree.specs.declared.class.ClassTree.{ClassTree}
 use Rattle.cdl_tree.specs.Parts.{items_of}
 use Rattle.cdl_classes.specs.declared.found.Found.{Found}
 use Rattle.cdl_classes.specs.declared.found.Found.TheVariants as it
-use Rattle.cdl_classes.specs.declared.lookup.Sought.TheVariants.{Class as ClassNames}
-use Rattle.cdl_classes.specs.Classes.{Full, Declared}
-use Rattle.cdl_classes.specs.Lookup.{Entity, a_class, a_package, in_cdl, in_modelica, a_type, a_constant, a_literal, meaning}
+use Rattle.cdl_scopes.specs.declared.lookup.Sought.TheVariants.{Class as ClassNames}
+use Rattle.cdl_scopes.specs.Classes.{Full, Declared}
+use Rattle.cdl_scopes.specs.Lookup.{Entity, a_class, a_package, in_cdl, in_modelica, a_type, a_constant, a_literal, meaning}
 use Rattle.cdl_classes.specs.Found.{joined, connector_named, connector_at, or_kind, modelica_found, found_of}
 use Rattle.cdl_classes.specs.Places.{least, sooner}
 use Rattle.cdl_classes.specs.Rules.{places_in, places_from, IsKnown}
-use Rattle.cdl_classes.proofs.Lists.{cases_option}
-use Rattle.cdl_classes.proofs.Meaning.{Valid, yields_meaning}
+use Rattle.cdl_scopes.proofs.Lists.{cases_option, drop_at}
+use Rattle.cdl_scopes.proofs.Meaning.{Valid, yields_meaning}
 
 pub least-append : (first : Option Place) (ps qs : List Place) → least first (ps ++ qs) ≡ least (least first ps) qs
 least-append first [] qs = refl
 least-append first (p ∷ ps) qs = least-append (sooner first p) ps qs
-
-pub drop_at : {X : Type 0} (xs : List X) (i : ℕ) (x : X) → slice_get xs i ≡ Some x → drop i xs ≡ x ∷ drop (i + 1) xs
-drop_at [] i x e = cc
-drop_at (y ∷ xs) zero x e = ap (λ z. z ∷ xs) (same_Some y x e)
-drop_at (y ∷ xs) (suc i) x e =
-    let next : suc (i + 1) ≡ suc i + 1 = omega arith in
-    drop_at xs i x e ∙ ap (λ j. x ∷ drop j (y ∷ xs)) next
 
 pub mapped_some : {A B : Type 0} (f : A → B) (o : Option A) (y : B) → option_map f o ≡ Some y → (x : A) × (o ≡ Some x) × (f x ≡ y)
 mapped_some f None y e = cc
@@ -123,9 +116,3 @@ known_meaning ds number name =
       | inl none ↦ rw none tt
       | inr some ↦ rw some.1 (known_found ds some.0 (yields_meaning ds ClassNames number name some.0 some.1))
     ]
-
-pub none_dropped : {X : Type 0} (xs : List X) (i : ℕ) → length xs ≤ i → drop i xs ≡ []
-none_dropped [] zero h = refl
-none_dropped [] (suc i) h = refl
-none_dropped (x ∷ xs) zero h = absurd (omega arith)
-none_dropped (x ∷ xs) (suc i) h = none_dropped xs i (omega arith)

@@ -9,7 +9,7 @@ use Rattle.std.proofs.lemmas.Slice.Eq.{bytes_eq-Decides}
 use Rattle.cdl_kinds.specs.declared.kind.Kind.{Kind}
 use Rattle.cdl_kinds.specs.declared.kind.Kind.TheVariants.{LogicalAnd}
 use Rattle.cdl_kinds.specs.Names.{kind_name, kinds, found}
-use Rattle.cdl_classes.proofs.Lists.{cases_option}
+use Rattle.cdl_scopes.proofs.Lists.{cases_option}
 
 first_of_name : (k : Kind) → found (kind_name k) kinds ≡ Some k
 unfolding kinds

@@ -11,15 +11,16 @@ use Rattle.std.proofs.Math.ListN.{length-set}
 use Rattle.std.proofs.lemmas.List.{same_from_push, map-append}
 use Rattle.cdl_source.specs.declared.place.Place.{Place}
 use Rattle.cdl_tree.specs.declared.name.Ident.{Ident}
-use Rattle.cdl_classes.specs.Classes.{Full, same_full, text_of}
-use Rattle.cdl_classes.specs.Lookup.{first_named, first_named_from}
-use Rattle.cdl_classes.specs.inner.Numbered.{entry}
+use Rattle.cdl_scopes.specs.Classes.{Full, same_full, text_of}
+use Rattle.cdl_scopes.specs.Lookup.{first_named, first_named_from}
+use Rattle.cdl_scopes.specs.Numbered.{entry}
 use Rattle.cdl_classes.specs.Places.{not_after, soonest, latest, sooner, least}
 use Rattle.cdl_classes.specs.Rules.{Named, place, later_of, with_name, twice_from, again_from}
 use Rattle.cdl_classes.specs.inner.Marks.{mark_from, Marks, and_later}
-use Rattle.cdl_classes.proofs.Lists.{get_written}
-use Rattle.cdl_classes.proofs.Fronts.{same_bytes, bytes_same, same_is, same_self}
-use Rattle.cdl_classes.proofs.Items.{least-append, drop_at}
+use Rattle.cdl_scopes.proofs.Lists.{get_written}
+use Rattle.cdl_scopes.proofs.Fronts.{same_bytes, bytes_same, same_is, same_self}
+use Rattle.cdl_classes.proofs.Items.{least-append}
+use Rattle.cdl_scopes.proofs.Lists.{drop_at}
 
 -- a place comes before another by its file, or by its byte in one file
 ordered : (p q : Place) → (p.file < q.file) ⊎ ((p.file ≡ q.file) × (p.byte ≤ q.byte)) → not_after p q ≡ true

@@ -5,13 +5,14 @@ use Rattle.cdl_source.specs.declared.place.Place.{Place}
 use Rattle.cdl_tree.specs.declared.class.Item.{Item}
 use Rattle.cdl_tree.specs.declared.class.ClassTree.{ClassTree}
 use Rattle.cdl_tree.specs.Parts.{class_name, items_of}
-use Rattle.cdl_classes.specs.declared.lookup.ClassSort.{ClassSort}
-use Rattle.cdl_classes.specs.declared.lookup.ClassSort.TheVariants as sort
-use Rattle.cdl_classes.specs.Classes.{Full, Declared, full}
-use Rattle.cdl_classes.specs.Lookup.{sort_of}
+use Rattle.cdl_scopes.specs.declared.lookup.ClassSort.{ClassSort}
+use Rattle.cdl_scopes.specs.declared.lookup.ClassSort.TheVariants as sort
+use Rattle.cdl_scopes.specs.Classes.{Full, Declared, full}
+use Rattle.cdl_scopes.specs.Lookup.{sort_of}
 use Rattle.cdl_classes.specs.Places.{least}
 use Rattle.cdl_classes.specs.Rules.{place, constants_of, own_names, is_taken, is_package, if_broken, taken_constants, type_names, taken_in, taken_of}
-use Rattle.cdl_classes.proofs.Items.{least-append, drop_at}
+use Rattle.cdl_classes.proofs.Items.{least-append}
+use Rattle.cdl_scopes.proofs.Lists.{drop_at}
 
 pub next_constant : (ds : List Declared) (file : ℕ) (q : Full) (items : List Item) (i : ℕ) (x : Item) (first : Option Place) → i < length items → x ≡ get_or items i x
     → least (least first (if_broken (is_taken ds false q x.name.text) (place file x.name))) (taken_constants ds file q (drop (i + 1) items)) ≡ least first (taken_constants ds file q (drop i items))

@@ -8,14 +8,15 @@ use Rattle.cdl_source.specs.declared.place.Place.{Place}
 use Rattle.cdl_tree.specs.declared.class.Item.{Item}
 use Rattle.cdl_tree.specs.declared.class.ClassTree.{ClassTree}
 use Rattle.cdl_tree.specs.Parts.{class_name, items_of}
-use Rattle.cdl_classes.specs.declared.lookup.ClassSort.{ClassSort}
-use Rattle.cdl_classes.specs.declared.lookup.ClassSort.TheVariants as sort
-use Rattle.cdl_classes.specs.Classes.{Full, Declared, full}
-use Rattle.cdl_classes.specs.Lookup.{sort_of}
+use Rattle.cdl_scopes.specs.declared.lookup.ClassSort.{ClassSort}
+use Rattle.cdl_scopes.specs.declared.lookup.ClassSort.TheVariants as sort
+use Rattle.cdl_scopes.specs.Classes.{Full, Declared, full}
+use Rattle.cdl_scopes.specs.Lookup.{sort_of}
 use Rattle.cdl_classes.specs.Places.{least}
 use Rattle.cdl_classes.specs.inner.Marks.{Marks}
 use Rattle.cdl_classes.specs.Rules.{Named, place, constant_named, constants_of, named_in, named_of, later_of, with_name, twice_from, again_in, again_of}
-use Rattle.cdl_classes.proofs.Items.{least-append, drop_at}
+use Rattle.cdl_classes.proofs.Items.{least-append}
+use Rattle.cdl_scopes.proofs.Lists.{drop_at}
 use Rattle.cdl_classes.proofs.MarkLaws.{twice_append, taken_more}
 
 -- further names are noted, and the first place is known

@@ -3,13 +3,13 @@ use Rattle.std.specs.Prelude.{◌+◌, ℕ, true, false, ◌&&◌, List, [], ◌
 use Rattle.std.specs.Str.{bytes_eq}
 use Rattle.cdl_kinds.specs.declared.kind.Kind.{Kind}
 use Rattle.cdl_kinds.specs.Names.{kinds, found}
-use Rattle.cdl_kinds.specs.declared.value.ValueType.TheVariants as type
+use Rattle.cdl_values.specs.declared.value.ValueType.TheVariants as type
 use Rattle.cdl_classes.specs.declared.found.Found.{Found}
 use Rattle.cdl_classes.specs.declared.found.Found.TheVariants as it
 use Rattle.cdl_classes.specs.declared.found.ValueFound.{ValueFound}
 use Rattle.cdl_classes.specs.declared.found.ValueFound.TheVariants as value
-use Rattle.cdl_classes.specs.Classes.{Full}
-use Rattle.cdl_classes.specs.Lookup.{Entity, a_class, a_package, in_cdl, in_modelica, a_type, a_constant, a_literal}
+use Rattle.cdl_scopes.specs.Classes.{Full}
+use Rattle.cdl_scopes.specs.Lookup.{Entity, a_class, a_package, in_cdl, in_modelica, a_type, a_constant, a_literal}
 
 -- identifiers, each with a point before it
 abbrev pub pointed : Full → List ℕ

@@ -1,6 +1,3 @@
-pub mod Classes
-pub mod Lookup
-pub mod Scopes
 pub mod Found
 pub mod Table
 pub mod Places

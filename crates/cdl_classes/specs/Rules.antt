@@ -13,11 +13,11 @@ use Rattle.cdl_tree.specs.declared.class.Item.{Item}
 use Rattle.cdl_tree.specs.Parts.{class_name, items_of, literals_of}
 use Rattle.cdl_classes.specs.declared.found.Found.{Found}
 use Rattle.cdl_classes.specs.declared.found.Found.TheVariants as it
-use Rattle.cdl_classes.specs.declared.lookup.ClassSort.{ClassSort}
-use Rattle.cdl_classes.specs.declared.lookup.ClassSort.TheVariants as sort
-use Rattle.cdl_classes.specs.declared.lookup.Sought.TheVariants.{Class}
-use Rattle.cdl_classes.specs.Classes.{Full, Declared, parts_of, full, is_front, same_full}
-use Rattle.cdl_classes.specs.Lookup.{library, in_library, scalar_named, sort_of, meaning}
+use Rattle.cdl_scopes.specs.declared.lookup.ClassSort.{ClassSort}
+use Rattle.cdl_scopes.specs.declared.lookup.ClassSort.TheVariants as sort
+use Rattle.cdl_scopes.specs.declared.lookup.Sought.TheVariants.{Class}
+use Rattle.cdl_scopes.specs.Classes.{Full, Declared, parts_of, full, same_full}
+use Rattle.cdl_scopes.specs.Lookup.{is_needed, in_library, scalar_named, sort_of, meaning}
 use Rattle.cdl_classes.specs.Found.{found_of}
 use Rattle.cdl_classes.specs.Places.{latest}
 
@@ -83,13 +83,6 @@ abbrev pub broken_10 : List Declared → List Place
 broken_10 ds = twice_from [] (named_of ds) ++ again_of ds
 
 -- ---- C11: a name that is not free
-
--- a package must exist at this full name: the library or a class has it as a front
-abbrev pub is_around : Full → Full → Bool
-is_around q r = is_front q r && not (same_full q r)
-
-abbrev pub is_needed : List Declared → Full → Bool
-is_needed ds q = list_any (is_around q) (library ++ map full ds)
 
 abbrev pub is_type : List ℕ → Bool
 is_type x = is_some (scalar_named x)

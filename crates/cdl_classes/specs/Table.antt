@@ -1,23 +1,14 @@
 -- What a table of the declared classes of files answers.
-use Rattle.std.specs.Prelude.{◌≡◌, ◌<◌, ◌≤◌, ◌==◌, ℕ, List, [], ◌∷◌, map, if◌then◌else◌, Option, Some, None, length, slice_get, option_and_then, option_map}
+use Rattle.std.specs.Prelude.{◌≡◌, ◌<◌, ◌≤◌, ℕ, List, map, Option, Some, None, length, slice_get, option_and_then, option_map}
 use Rattle.cdl_tree.specs.declared.class.Item.{Item}
 use Rattle.cdl_tree.specs.Parts.{items_of, literals_of}
 use Rattle.cdl_classes.specs.declared.found.ClassId.{ClassId}
 use Rattle.cdl_classes.specs.declared.found.ValueFound.{ValueFound}
 use Rattle.cdl_classes.specs.declared.found.ValueFound.TheVariants as value
-use Rattle.cdl_classes.specs.declared.lookup.ClassSort.{ClassSort}
-use Rattle.cdl_classes.specs.declared.lookup.ClassSort.TheVariants as sort
-use Rattle.cdl_classes.specs.Classes.{Full, Declared}
-use Rattle.cdl_classes.specs.Lookup.{first_of, first_named, item_name, sort_of}
-
--- the parts of a name between its points
-abbrev pub add_first : ℕ → Full → Full
-add_first b [] = []
-add_first b (x ∷ rest) = (b ∷ x) ∷ rest
-
-abbrev pub cut : List ℕ → Full
-cut [] = [] ∷ []
-cut (b ∷ rest) = if b == 46 then [] ∷ cut rest else add_first b (cut rest)
+use Rattle.cdl_scopes.specs.declared.lookup.ClassSort.{ClassSort}
+use Rattle.cdl_scopes.specs.declared.lookup.ClassSort.TheVariants as sort
+use Rattle.cdl_scopes.specs.Classes.{Full, Declared}
+use Rattle.cdl_scopes.specs.Lookup.{first_of, first_named, item_name, sort_of}
 
 abbrev pub if_block : ℕ → ClassSort → Option ClassId
 if_block i sort.Block = Some (record { index = i })

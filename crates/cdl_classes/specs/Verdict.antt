@@ -4,7 +4,7 @@ use Rattle.cdl_source.specs.declared.place.Place.{Place}
 use Rattle.cdl_tree.specs.declared.class.FileTree.{FileTree}
 use Rattle.cdl_classes.specs.declared.table.ClassFault.{ClassFault}
 use Rattle.cdl_classes.specs.declared.table.ClassFault.TheVariants.{Rule, OutOfMemory}
-use Rattle.cdl_classes.specs.Classes.{Declared, declared}
+use Rattle.cdl_scopes.specs.Classes.{Declared, declared}
 use Rattle.cdl_classes.specs.Places.{not_after, In}
 use Rattle.cdl_classes.specs.Rules.{broken_10, broken_11, broken_12, broken_13}
 

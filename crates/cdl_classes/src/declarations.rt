@@ -1,26 +1,24 @@
 // The declared classes of files, before the rules on their items are looked at.
 ghost use Rattle.std.specs.Prelude.{◌≡◌, ◌<◌, ◌≤◌, ◌^◌, [], IfErr, IfOk, List, None, Some, length, nat_lt, slice_get, option_map, option_and_then, if◌then◌else◌};
 ghost use Rattle.cdl_tree.specs.Parts.{items_of};
-ghost use Rattle.cdl_classes.specs.Classes.{Full, declared, parts_of};
-ghost use Rattle.cdl_classes.specs.Lookup.{Entity, meaning};
+ghost use Rattle.cdl_scopes.specs.Classes.{Full, declared, parts_of};
+ghost use Rattle.cdl_scopes.specs.Lookup.{Entity, meaning};
 ghost use Rattle.cdl_classes.specs.Found.{found_of, value_of};
 ghost use Rattle.cdl_classes.specs.Rules.{broken_10, broken_11};
-ghost use Rattle.cdl_classes.specs.Table.{cut, block_of, item_of};
+ghost use Rattle.cdl_classes.specs.Table.{block_of, item_of};
+ghost use Rattle.cdl_scopes.specs.Classes.{cut};
 ghost use Rattle.cdl_classes.specs.Verdict.{Refuses};
-ghost use Rattle.cdl_classes.specs.declared.lookup.Sought.TheVariants as sought;
-ghost use Rattle.cdl_classes.specs.inner.Known.{IsSmall, means};
+ghost use Rattle.cdl_scopes.specs.declared.lookup.Sought.TheVariants as sought;
+ghost use Rattle.cdl_scopes.specs.Known.{IsSmall, means};
 
-use crate::count::count;
 use crate::duplicates::first_twice;
 use crate::found::{ClassId, Found, ValueFound, cdl_found, modelica_found};
 use crate::free_names::first_taken;
-use crate::full_name::name_at;
-use crate::gather::{Classes, gather_files};
-use crate::lookup::{
-    ClassSort, Sought, Standing, class_at, first_at, meaning_of, sort_of, tree_of,
-};
-use crate::scopes::{Outwards, all_outwards, in_library};
 use crate::table::ClassFault;
+use cdl_scopes::{
+    ClassSort, Classes, Outwards, Sought, Standing, all_outwards, class_at, count_names, first_at,
+    gather_files, in_library, meaning_of, name_at, sort_of, tree_of,
+};
 use cdl_source::List;
 use cdl_tree::{ClassTree, FileTree, Name};
 use std::alloc::Global;
@@ -37,7 +35,7 @@ pub struct Declarations {
 impl Model for Declarations {
     ghost use Rattle.std.specs.Prelude.{List};
     ghost use Rattle.cdl_tree.specs.declared.class.FileTree.{FileTree as FileTreeOf};
-    ghost use Rattle.cdl_classes.specs.inner.Kept.{AreKept};
+    ghost use Rattle.cdl_scopes.specs.Kept.{AreKept};
     ghost use Rattle.cdl_tree.specs.contracts.class.ClassTree as tree;
     ghost use Rattle.std.specs.Coded.{codes};
 
@@ -124,7 +122,7 @@ impl Declarations {
         if let Some(place) = first_taken(files.items(), &classes, library.as_slice()) {
             return Err(ClassFault::Rule { rule: 11, place });
         }
-        match count(files.items(), &classes) {
+        match count_names(files.items(), &classes) {
             Some(_) => {}
             None => return Err(ClassFault::OutOfMemory),
         }

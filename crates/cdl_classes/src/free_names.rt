@@ -2,19 +2,18 @@
 ghost use Rattle.std.specs.Prelude.{◌≡◌, ◌++◌, ◌∷◌, ◌↔◌, [], ℕ, List, Bool, false, true, Option, Some, None, is_some, length, map, slice_get};
 ghost use Rattle.cdl_tree.specs.declared.class.FileTree.{FileTree as FileTreeOf};
 ghost use Rattle.cdl_tree.specs.declared.class.ClassTree.{ClassTree as ClassTreeOf};
-ghost use Rattle.cdl_classes.specs.Classes.{Declared, Full, declared};
-ghost use Rattle.cdl_classes.specs.Lookup as lookup_spec;
-ghost use Rattle.cdl_classes.specs.inner.Gathered.{IsGathered, IsShown, tree_at};
-ghost use Rattle.cdl_classes.specs.inner.Numbered.{child};
-ghost use Rattle.cdl_classes.specs.inner.Scopes.{AreInLibrary};
+ghost use Rattle.cdl_scopes.specs.Classes.{Declared, Full, declared};
+ghost use Rattle.cdl_scopes.specs.Lookup as lookup_spec;
+ghost use Rattle.cdl_scopes.specs.Gathered.{IsGathered, IsShown, tree_at};
+ghost use Rattle.cdl_scopes.specs.Numbered.{child};
+ghost use Rattle.cdl_scopes.specs.Outwards.{AreInLibrary};
 ghost use Rattle.cdl_classes.specs.Places.{least};
 ghost use Rattle.cdl_classes.specs.Rules as spec;
 
-use crate::gather::{Class, Classes};
-use crate::lookup::{ClassSort, node_at, scalar_named, sort_of, tree_of};
-use crate::names::Node;
 use crate::places::sooner;
-use crate::scopes::is_marked;
+use cdl_scopes::{
+    Class, ClassSort, Classes, Node, is_marked, node_at, scalar_named, sort_of, tree_of,
+};
 use cdl_source::Place;
 use cdl_tree::{FileTree, Ident, Item};
 
@@ -46,7 +45,7 @@ fn has_names(node: &Node) -> bool
 // Whether a package must exist at this name.
 fn is_needed(all: &Classes, name: usize) -> bool
     ensures { (files : List FileTreeOf) (h : IsGathered files all.now lookup_spec.library (declared files)) (q : Full) → slice_get h.names.paths name ≡ Some q
-        → result ≡ spec.is_needed (declared files) q }
+        → result ≡ lookup_spec.is_needed (declared files) q }
 {
     match node_at(all, name) {
         Some(node) => has_names(node),

@@ -1,15 +1,15 @@
 // Rules on the classes of items, C12 and C13.
 ghost use Rattle.std.specs.Prelude.{◌≡◌, ◌<◌, IfOk, length, None};
 ghost use Rattle.std.specs.List.{list_all};
-ghost use Rattle.cdl_classes.specs.Classes.{declared};
+ghost use Rattle.cdl_scopes.specs.Classes.{declared};
 ghost use Rattle.cdl_classes.specs.Places.{least};
 ghost use Rattle.cdl_classes.specs.Rules as spec;
 ghost use Rattle.cdl_classes.specs.inner.Kept.{AreItemClasses, classes_of, test_of};
 
 use crate::declarations::Declarations;
 use crate::found::{ClassId, Found};
-use crate::lookup::{ClassSort, sort_of};
 use crate::places::sooner;
+use cdl_scopes::{ClassSort, sort_of};
 use cdl_source::{OutOfMemory, Place};
 use cdl_tree::{Dim, Item, Prefix};
 use std::alloc::Global;

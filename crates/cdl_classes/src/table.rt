@@ -1,14 +1,15 @@
 // The table of the declared classes, which keep the rules on classes.
 ghost use Rattle.std.specs.Prelude.{◌≡◌, ◌<◌, ◌≤◌, ◌^◌, IfOk, IfErr, IfSome, List, None, Some, length, slice_get, option_map, option_and_then};
 ghost use Rattle.cdl_tree.specs.declared.class.Item.{Item as ItemOf};
-ghost use Rattle.cdl_classes.specs.Classes.{declared, parts_of};
-ghost use Rattle.cdl_classes.specs.Lookup.{meaning};
+ghost use Rattle.cdl_scopes.specs.Classes.{declared, parts_of};
+ghost use Rattle.cdl_scopes.specs.Lookup.{meaning};
 ghost use Rattle.cdl_classes.specs.Found.{found_of, value_of};
 ghost use Rattle.cdl_classes.specs.Rules.{IsKnown, class_of};
-ghost use Rattle.cdl_classes.specs.Table.{IsOf, IsValue, block_of, cut, item_of, items_at};
+ghost use Rattle.cdl_classes.specs.Table.{IsOf, IsValue, block_of, item_of, items_at};
+ghost use Rattle.cdl_scopes.specs.Classes.{cut};
 ghost use Rattle.cdl_classes.specs.Verdict.{IsUnbroken, Refuses};
-ghost use Rattle.cdl_classes.specs.declared.lookup.ClassSort.TheVariants as sort;
-ghost use Rattle.cdl_classes.specs.declared.lookup.Sought.TheVariants as sought;
+ghost use Rattle.cdl_scopes.specs.declared.lookup.ClassSort.TheVariants as sort;
+ghost use Rattle.cdl_scopes.specs.declared.lookup.Sought.TheVariants as sought;
 
 use crate::declarations::Declarations;
 use crate::found::{ClassId, Found, ValueFound};

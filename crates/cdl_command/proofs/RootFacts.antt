@@ -5,10 +5,10 @@ use Rattle.std.proofs.lemmas.Option.{slice_get_within}
 use Rattle.cdl_tree.specs.declared.class.ClassTree.{ClassTree}
 use Rattle.cdl_tree.specs.declared.class.FileTree.{FileTree}
 use Rattle.cdl_classes.specs.declared.found.ClassId.{ClassId}
-use Rattle.cdl_classes.specs.declared.lookup.ClassSort.{ClassSort}
-use Rattle.cdl_classes.specs.declared.lookup.ClassSort.TheVariants as sort
-use Rattle.cdl_classes.specs.Classes.{Declared, Full, declared}
-use Rattle.cdl_classes.specs.Lookup.{first_of, sort_of}
+use Rattle.cdl_scopes.specs.declared.lookup.ClassSort.{ClassSort}
+use Rattle.cdl_scopes.specs.declared.lookup.ClassSort.TheVariants as sort
+use Rattle.cdl_scopes.specs.Classes.{Declared, Full, declared}
+use Rattle.cdl_scopes.specs.Lookup.{first_of, sort_of}
 use Rattle.cdl_classes.specs.Table.{block_of as block_named, if_block}
 use Rattle.cdl_flat.specs.Blocks.{Block}
 use Rattle.cdl_command.specs.inner.Reads.{AreModels}

@@ -5,7 +5,7 @@ use Rattle.cdl_source.specs.Outside.{told}
 use Rattle.cdl_source.specs.Place.{line_of, column_of}
 use Rattle.cdl_source.specs.declared.place.Place.{Place}
 use Rattle.cdl_tree.specs.declared.class.FileTree.{FileTree}
-use Rattle.cdl_classes.specs.Classes.{declared}
+use Rattle.cdl_scopes.specs.Classes.{declared}
 use Rattle.cdl_flat.specs.Blocks.{Block}
 use Rattle.cdl_table.specs.declared.column.Column.{Column}
 use Rattle.cdl_table.specs.TableRow.{TableRow}

@@ -13,7 +13,7 @@ use Rattle.cdl_lex.specs.Rules.{Breaks, too_long, not_utf8, no_token, past_limit
 use Rattle.cdl_lex.specs.Splits.{Splits}
 use Rattle.cdl_lex.specs.TokenList.{TokenList, longest_text}
 use Rattle.cdl_tree.specs.declared.class.FileTree.{FileTree}
-use Rattle.cdl_tree.specs.Terminals.{terminals}
+use Rattle.cdl_tree.specs.Terminals.{lexemes}
 use Rattle.cdl_parse.specs.Verdict.{Closes, IsTree, IsRefused, word_of}
 use Rattle.cdl_parse.specs.declared.ParseFault.TheVariants.{Rule}
 use Rattle.cdl_command.specs.inner.Reads.{stop_of, IsShortHead}
@@ -25,12 +25,12 @@ use Rattle.cdl_command.proofs.ReadFacts.{longer}
 -- the tokens that were found close into the tree
 tree_is : (t : TokenList) (bytes : List ℕ) (tree : FileTree) → t.bytes ≡ bytes → BreaksNone bytes → Splits bytes t.items → Closes (word_of t) tree → IsTreeOf bytes tree
 tree_is t bytes tree b none splits c =
-    record { none_broken = none; tokens = t.items; splits = splits; closes = subst (λ bs. Closes (terminals bs t.items) tree) b c }
+    record { none_broken = none; tokens = t.items; splits = splits; closes = subst (λ bs. Closes (lexemes bs t.items) tree) b c }
 
 -- The tokens that were found close into each tree of the text.
 closed : (t : TokenList) (bytes : List ℕ) → t.bytes ≡ bytes → ((ts : List Token) → Splits bytes ts → ts ≡ t.items) → (other : FileTree) → IsTreeOf bytes other → Closes (word_of t) other
 closed t bytes b lexed other o =
-    subst (λ bs. Closes (terminals bs t.items) other) (sym b) (subst (λ ts. Closes (terminals bytes ts) other) (lexed o.tokens o.splits) o.closes)
+    subst (λ bs. Closes (lexemes bs t.items) other) (sym b) (subst (λ ts. Closes (lexemes bytes ts) other) (lexed o.tokens o.splits) o.closes)
 
 pub tree_found : (t : TokenList) (bytes : List ℕ) (tree : FileTree) → t.bytes ≡ bytes → BreaksNone bytes → Splits bytes t.items → ((ts : List Token) → Splits bytes ts → ts ≡ t.items)
     → Closes (word_of t) tree → ((other : FileTree) → Closes (word_of t) other → IsTree other (Ok tree)) → HasTree bytes tree

@@ -7,7 +7,7 @@ use Rattle.cdl_lex.specs.Rules.{BreaksNone, IsFirstBroken}
 use Rattle.cdl_lex.specs.Splits.{Splits}
 use Rattle.cdl_lex.specs.TokenList.{TokenList}
 use Rattle.cdl_tree.specs.declared.class.FileTree.{FileTree}
-use Rattle.cdl_tree.specs.Terminals.{terminals}
+use Rattle.cdl_tree.specs.Terminals.{lexemes}
 use Rattle.cdl_parse.specs.Verdict.{Closes, IsRefused}
 use Rattle.cdl_parse.specs.declared.ParseFault.TheVariants.{Rule}
 
@@ -31,7 +31,7 @@ pub record IsTreeOf (bytes : List ℕ) (tree : FileTree) : Type 0 where
   pub none_broken : BreaksNone bytes
   pub tokens : List Token
   pub splits : Splits bytes tokens
-  pub closes : Closes (terminals bytes tokens) tree
+  pub closes : Closes (lexemes bytes tokens) tree
 
 -- The text has this tree, and no other.
 abbrev pub HasTree : List ℕ → FileTree → Type 0

@@ -5,8 +5,9 @@ use Rattle.cdl_source.specs.declared.rules.TheConstants.{NO_SUCH_BLOCK, NOT_BUIL
 use Rattle.cdl_tree.specs.declared.class.ClassTree.{ClassTree}
 use Rattle.cdl_tree.specs.declared.class.FileTree.{FileTree}
 use Rattle.cdl_classes.specs.declared.found.ClassId.{ClassId}
-use Rattle.cdl_classes.specs.Classes.{declared}
-use Rattle.cdl_classes.specs.Table.{cut as cut_name, block_of as block_named}
+use Rattle.cdl_scopes.specs.Classes.{declared}
+use Rattle.cdl_classes.specs.Table.{block_of as block_named}
+use Rattle.cdl_scopes.specs.Classes.{cut as cut_name}
 use Rattle.cdl_classes.specs.Verdict.{IsUnbroken, BreaksFirst}
 use Rattle.cdl_flat.specs.Blocks.{Block}
 use Rattle.cdl_table.specs.TableRow.{TableRow}

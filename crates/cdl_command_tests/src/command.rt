@@ -15,15 +15,20 @@ struct Given<'a> {
     table: &'a [u8],
 }
 
-// The calls of the files and the writes of the sinks that fail, counted from 1; 0: none.
+// The most bytes that a read gives and a write takes, and the calls of the files and the writes of the sinks that fail, counted
+// from 1; 0: none.
 #[derive(Clone, Copy)]
-struct Failing {
+struct Devices {
+    read: usize,
+    write: usize,
     files: u64,
     out: u64,
     err: u64,
 }
 
-const NONE: Failing = Failing {
+const SOUND: Devices = Devices {
+    read: usize::MAX,
+    write: 7,
     files: 0,
     out: 0,
     err: 0,
@@ -155,17 +160,18 @@ fn words_of(alloc: Global, text: &str) -> Result<Vec<String>, Fail> {
 }
 
 // What a job ends with while these calls fail: the code, and the texts on the two sinks.
-fn end_of(alloc: Global, given: &Given<'_>, failing: Failing) -> Result<Text, Fail> {
+fn end_of(alloc: Global, given: &Given<'_>, devices: Devices) -> Result<Text, Fail> {
     let words = words_of(alloc, given.words)?;
     let mut files = MemFiles::new(alloc);
     files.put("m.mo", given.model)?;
     files.put("s.mo", given.other)?;
     files.put("t.csv", given.table)?;
-    files.fail(failing.files)?;
-    let mut out = MemSink::new(alloc, 7, 4096)?;
-    out.fail(failing.out)?;
+    files.piece(devices.read.max(1));
+    files.fail(devices.files)?;
+    let mut out = MemSink::new(alloc, devices.write, 4096)?;
+    out.fail(devices.out)?;
     let mut err = MemSink::new(alloc, 4096, 4096)?;
-    err.fail(failing.err)?;
+    err.fail(devices.err)?;
     let outcome = command(alloc, &words, &mut files, &mut out, &mut err);
     let mut code = Buffer::new();
     let mut end = Text::new(alloc);
@@ -178,7 +184,7 @@ fn end_of(alloc: Global, given: &Given<'_>, failing: Failing) -> Result<Text, Fa
 }
 
 // Whether the job of this case ends with what is marked.
-fn ends_with(alloc: Global, case: &str, want: &str, failing: Failing) -> Result<bool, Fail> {
+fn ends_with(alloc: Global, case: &str, want: &str, devices: Devices) -> Result<bool, Fail> {
     let mut parts = case.split('~');
     let words = parts.next().ok_or("no words")?;
     let model = bytes_of(alloc, parts.next().ok_or("no model")?, LIBRARY)?;
@@ -190,7 +196,7 @@ fn ends_with(alloc: Global, case: &str, want: &str, failing: Failing) -> Result<
         other: other.bytes(),
         table: table.bytes(),
     };
-    let end = end_of(alloc, &given, failing)?;
+    let end = end_of(alloc, &given, devices)?;
     let want = bytes_of(alloc, want, LIBRARY)?;
     Ok(end.bytes() == want.bytes())
 }
@@ -240,7 +246,7 @@ fn gates_end_so(alloc: Global, table: &[u8], want: &str) -> Result<bool, Fail> {
         other: b"",
         table,
     };
-    let end = end_of(alloc, &given, NONE)?;
+    let end = end_of(alloc, &given, SOUND)?;
     let want = bytes_of(alloc, want, LIBRARY)?;
     Ok(end.bytes() == want.bytes())
 }
@@ -253,17 +259,18 @@ fn model_ends_so(alloc: Global, model: &[u8], want: &[u8]) -> Result<bool, Fail>
         other: b"",
         table: b"time\n",
     };
-    let end = end_of(alloc, &given, NONE)?;
+    let end = end_of(alloc, &given, SOUND)?;
     Ok(end.bytes() == want)
 }
 
 // The calls that fail, in three numbers.
-fn failing_calls(words: &str) -> Result<Failing, Fail> {
+fn failing_calls(words: &str) -> Result<Devices, Fail> {
     let mut numbers = words.split(' ');
-    Ok(Failing {
+    Ok(Devices {
         files: numbers.next().ok_or("no files")?.parse()?,
         out: numbers.next().ok_or("no output")?.parse()?,
         err: numbers.next().ok_or("no error")?.parse()?,
+        ..SOUND
     })
 }
 
@@ -272,7 +279,7 @@ fn jobs_end_so(rt: HostRuntime) -> Result<(), Fail> {
     let alloc = rt.alloc();
     for line in CASES.lines() {
         let (case, want) = line.split_once('>').ok_or("no end")?;
-        assert!(rt; ends_with(alloc, case, want, NONE)?, "{line}");
+        assert!(rt; ends_with(alloc, case, want, SOUND)?, "{line}");
     }
     for line in TABLES.lines() {
         let (table, want) = line.split_once('>').ok_or("no end")?;
@@ -286,7 +293,7 @@ fn jobs_end_so(rt: HostRuntime) -> Result<(), Fail> {
             other: b"",
             table: b"",
         };
-        let end = end_of(alloc, &given, NONE)?;
+        let end = end_of(alloc, &given, SOUND)?;
         assert!(rt; end.bytes() == USAGE, "{words}");
     }
     Ok(())
@@ -328,6 +335,23 @@ fn limits_are_exact(rt: HostRuntime) -> Result<(), Fail> {
         )?,
         "model too long"
     );
+    Ok(())
+}
+
+#[test]
+fn pieces_of_any_size_end_alike(rt: HostRuntime) -> Result<(), Fail> {
+    let alloc = rt.alloc();
+    for piece in [1usize, 7, 4096] {
+        let devices = Devices {
+            read: piece,
+            write: piece,
+            ..SOUND
+        };
+        for line in CASES.lines() {
+            let (case, want) = line.split_once('>').ok_or("no end")?;
+            assert!(rt; ends_with(alloc, case, want, devices)?, "{piece}: {line}");
+        }
+    }
     Ok(())
 }
 

@@ -3,10 +3,11 @@ use Rattle.std.proofs.Common.{ℕ, zero, suc, ◌+◌, ◌-◌, ◌<◌, ◌≤�
 use Rattle.std.specs.Prelude.{nat_le, nat_lt}
 use Rattle.std.proofs.lemmas.Bool.{eq-eqb, eqb-true, lt-ltb, ltb-true, leb-true, le-leb, false≢true, le-ltb, and_from, and_right}
 use Rattle.cdl_kinds.specs.declared.kind.Kind.{Kind}
-use Rattle.cdl_kinds.specs.declared.value.Array.{Array}
-use Rattle.cdl_kinds.specs.History.{History, Meaning, SameDirect, word}
+use Rattle.cdl_values.specs.declared.value.Array.{Array}
+use Rattle.cdl_values.specs.History.{History, Meaning, SameDirect, word}
 use Rattle.cdl_kinds.specs.Meanings.{meaning}
-use Rattle.cdl_kinds.specs.Ports.{inputs, outputs, port_at, port_among, ports, size_of}
+use Rattle.cdl_kinds.specs.Ports.{inputs, outputs, port_at, port_among, nin_or_nout}
+use Rattle.cdl_kinds.specs.Table.{row}
 use Rattle.cdl_kinds.proofs.Listing.{among_is}
 use Rattle.cdl_kind_laws.proofs.Direct.{direct_only}
 use Rattle.cdl_network.specs.Dependence.{is_of, inputs_of, outputs_of, direct_of}
@@ -53,15 +54,15 @@ own_elements n i t q f s =
 -- ports
 input_port : (k : Kind) (p : List Array) (j : ℕ) → j < (inputs k p).count → (port_at k p j).input ≡ true
 input_port k p j h =
-    let a = port_among true (ports k).direct (size_of p) (ports k).ins j in
-    let b = port_among false false (size_of p) (ports k).outs (j - (inputs k p).count) in
-    ap (λ c. (cond c a b).input) (lt-ltb j (inputs k p).count h) ∙ (among_is a true (ports k).direct (size_of p) (ports k).ins j refl h).0
+    let a = port_among true (row k).direct (nin_or_nout p) (row k).ins j in
+    let b = port_among false false (nin_or_nout p) (row k).outs (j - (inputs k p).count) in
+    ap (λ c. (cond c a b).input) (lt-ltb j (inputs k p).count h) ∙ (among_is a true (row k).direct (nin_or_nout p) (row k).ins j refl h).0
 
 output_port : (k : Kind) (p : List Array) (j : ℕ) → (inputs k p).count ≤ j → j < (inputs k p).count + (outputs k p).count → (port_at k p j).input ≡ false
 output_port k p j l h =
-    let a = port_among true (ports k).direct (size_of p) (ports k).ins j in
-    let b = port_among false false (size_of p) (ports k).outs (j - (inputs k p).count) in
-    ap (λ c. (cond c a b).input) (le-ltb j (inputs k p).count l) ∙ (among_is b false false (size_of p) (ports k).outs (j - (inputs k p).count) refl (omega (arith, l, h))).0
+    let a = port_among true (row k).direct (nin_or_nout p) (row k).ins j in
+    let b = port_among false false (nin_or_nout p) (row k).outs (j - (inputs k p).count) in
+    ap (λ c. (cond c a b).input) (le-ltb j (inputs k p).count l) ∙ (among_is b false false (nin_or_nout p) (row k).outs (j - (inputs k p).count) refl (omega (arith, l, h))).0
 
 -- what an instance of a kind is
 pub record IsOf (n : Net) (i : ℕ) (t : NetInstance) (k : Kind) (p : List Array) : Type 0 where
@@ -87,7 +88,7 @@ output_at n i t k p x o a b =
     let q = o.ports.each (x - t.first) (omega (arith, a, b, c)) in
     subst (λ y. (element n y).input ≡ false) e (q.input ∙ output_port k p (x - t.first) (omega (arith, a)) (omega (arith, a, b)))
 
-direct_at : (n : Net) (i : ℕ) (t : NetInstance) (k : Kind) (p : List Array) (x : ℕ) → IsOf n i t k p → t.first ≤ x → x < t.first + t.count → (network_of n).direct x ≡ (ports k).direct
+direct_at : (n : Net) (i : ℕ) (t : NetInstance) (k : Kind) (p : List Array) (x : ℕ) → IsOf n i t k p → t.first ≤ x → x < t.first + t.count → (network_of n).direct x ≡ (row k).direct
 direct_at n i t k p x o a b =
     let l = o.indexed.windows.within i t o.there in
     let own = window_own n i x t o.indexed o.there (omega (arith, l, b)) a b in
@@ -105,10 +106,10 @@ outputs_are n i t k p o =
     ∙ filter_back (λ x. not (element n x).input) t.first t.count (inputs k p).count (outputs k p).count o.ports.count (λ x a b. ap not (input_at n i t k p x o a b)) (λ x a b. ap not (output_at n i t k p x o a b))
 
 -- where its inputs are direct all of them are, else none
-pub direct_are : (n : Net) (i : ℕ) (t : NetInstance) (k : Kind) (p : List Array) → IsOf n i t k p → direct_of (network_of n) i ≡ cond (ports k).direct (numbers t.first (inputs k p).count) []
+pub direct_are : (n : Net) (i : ℕ) (t : NetInstance) (k : Kind) (p : List Array) → IsOf n i t k p → direct_of (network_of n) i ≡ cond (row k).direct (numbers t.first (inputs k p).count) []
 direct_are n i t k p o =
     own_elements n i t (λ x. (network_of n).input x && (network_of n).direct x) o.indexed o.there
-    ∙ bool_cases (ports k).direct
+    ∙ bool_cases (row k).direct
     (λ d. filter_front (λ x. (network_of n).input x && (network_of n).direct x) t.first t.count (inputs k p).count (outputs k p).count o.ports.count
     (λ x a b. and_from ((network_of n).input x) ((network_of n).direct x) (input_at n i t k p x o a b) (at x a (omega (arith, b, o.ports.count)) ∙ d))
     (λ x a b. ap (λ c. c && (network_of n).direct x) (output_at n i t k p x o a b))
@@ -117,7 +118,7 @@ direct_are n i t k p o =
     (λ x m. let r = in_numbers t.first t.count x m in and_right ((network_of n).input x) ((network_of n).direct x) (at x r.0 r.1 ∙ d))
     ∙ sym (ap (λ c. cond c (numbers t.first (inputs k p).count) []) d))
   where
-    at : (x : ℕ) → t.first ≤ x → x < t.first + t.count → (network_of n).direct x ≡ (ports k).direct
+    at : (x : ℕ) → t.first ≤ x → x < t.first + t.count → (network_of n).direct x ≡ (row k).direct
     at x a b = direct_at n i t k p x o a b
 
 -- words that are the same where inputs are direct

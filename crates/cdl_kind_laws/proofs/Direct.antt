@@ -3,16 +3,17 @@ use Rattle.std.proofs.Common.{◌≡◌, refl, ap, Bool, true, false, cond, ℤ,
 use Rattle.std.specs.Prelude.{Some}
 use Rattle.cdl_kinds.specs.declared.kind.Kind.{Kind}
 use Rattle.cdl_kinds.specs.declared.kind.Kind.TheVariants.{LogicalAnd, LogicalOr, LogicalNand, LogicalNor, LogicalXor, LogicalNot, LogicalMultiAnd, LogicalMultiOr, LogicalEdge, LogicalFallingEdge, LogicalChange, LogicalLatch, LogicalToggle, LogicalPre, LogicalSwitch, IntegersSwitch, RealsSwitch, LogicalTimer, LogicalTimerAccumulating, LogicalTrueDelay, LogicalTrueFalseHold, LogicalSourcesConstant, IntegersSourcesConstant, RealsSourcesConstant, LogicalSourcesPulse, IntegersAbs, RealsAbs, IntegersAdd, IntegersSubtract, IntegersMultiply, IntegersMax, IntegersMin, IntegersAddParameter, IntegersMultiSum, IntegersEqual, IntegersGreater, IntegersGreaterEqual, IntegersLess, IntegersLessEqual, IntegersGreaterThreshold, IntegersGreaterEqualThreshold, IntegersLessThreshold, IntegersLessEqualThreshold, IntegersChange, IntegersOnCounter, RealsAdd, RealsSubtract, RealsMultiply, RealsDivide, RealsMax, RealsMin, RealsAddParameter, RealsMultiplyByParameter, RealsAverage, RealsModulo, RealsMultiSum, RealsMultiMax, RealsMultiMin, RealsGreater, RealsLess, RealsGreaterThreshold, RealsLessThreshold, RealsHysteresis, RealsLimiter, RealsLine, ConversionsBooleanToInteger, ConversionsBooleanToReal, ConversionsIntegerToReal, ConversionsRealToInteger, DiscreteSampler, DiscreteZeroOrderHold, DiscreteUnitDelay, DiscreteTriggeredSampler, DiscreteTriggeredMax, DiscreteTriggeredMovingMean, RoutingBooleanScalarReplicator, RoutingIntegerScalarReplicator, RoutingRealScalarReplicator}
-use Rattle.cdl_kinds.specs.declared.value.Array.{Array}
-use Rattle.cdl_kinds.specs.History.{History, SameDirect, word}
-use Rattle.cdl_kinds.specs.Laws.{all_direct}
+use Rattle.cdl_values.specs.declared.value.Array.{Array}
+use Rattle.cdl_values.specs.History.{History, SameDirect, word}
+use Rattle.cdl_values.proofs.Laws.{same_inputs}
 use Rattle.cdl_kinds.specs.Meaning.Discrete.{sampled, samples, second_or}
 use Rattle.cdl_kinds.specs.Meanings.{meaning}
-use Rattle.cdl_kinds.specs.Ports.{inputs, ports}
-use Rattle.cdl_kinds.specs.Values.{real_at}
+use Rattle.cdl_kinds.specs.Ports.{inputs}
+use Rattle.cdl_kinds.specs.Table.{row}
+use Rattle.cdl_values.specs.Values.{real_at}
 
-by_direct : (k : Kind) → (ports k).direct ≡ true → (v : List Array) (h : History) (now : ℤ) (x y : List ℤ) → SameDirect (inputs k v) x y → meaning k v h now x ≡ meaning k v h now y
-by_direct k d v h now x y s = ap (λ (z : List ℤ). meaning k v h now z) (all_direct (inputs k v) x y (λ _. d) s)
+by_direct : (k : Kind) → (row k).direct ≡ true → (v : List Array) (h : History) (now : ℤ) (x y : List ℤ) → SameDirect (inputs k v) x y → meaning k v h now x ≡ meaning k v h now y
+by_direct k d v h now x y s = ap (λ (z : List ℤ). meaning k v h now z) (same_inputs (inputs k v) x y (λ _. d) s)
 
 second_sample : (start : ℤ) (b : Bool) (w z : ℤ) (us : List ℤ) → Some (second_or start (cond b (w ∷ us) us) ∷ []) ≡ Some (second_or start (cond b (z ∷ us) us) ∷ [])
 second_sample start true w z us = refl

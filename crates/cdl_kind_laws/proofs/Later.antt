@@ -4,9 +4,9 @@ use Rattle.std.specs.Prelude.{pos, ◌*ℤ◌, ◌≤ℤ◌}
 use Rattle.std.proofs.lemmas.Int.{ints}
 use Rattle.cdl_kinds.specs.declared.kind.Kind.{Kind}
 use Rattle.cdl_kinds.specs.declared.kind.Kind.TheVariants.{LogicalAnd, LogicalOr, LogicalNand, LogicalNor, LogicalXor, LogicalNot, LogicalMultiAnd, LogicalMultiOr, LogicalEdge, LogicalFallingEdge, LogicalChange, LogicalLatch, LogicalToggle, LogicalPre, LogicalSwitch, IntegersSwitch, RealsSwitch, LogicalTimer, LogicalTimerAccumulating, LogicalTrueDelay, LogicalTrueFalseHold, LogicalSourcesConstant, IntegersSourcesConstant, RealsSourcesConstant, LogicalSourcesPulse, IntegersAbs, RealsAbs, IntegersAdd, IntegersSubtract, IntegersMultiply, IntegersMax, IntegersMin, IntegersAddParameter, IntegersMultiSum, IntegersEqual, IntegersGreater, IntegersGreaterEqual, IntegersLess, IntegersLessEqual, IntegersGreaterThreshold, IntegersGreaterEqualThreshold, IntegersLessThreshold, IntegersLessEqualThreshold, IntegersChange, IntegersOnCounter, RealsAdd, RealsSubtract, RealsMultiply, RealsDivide, RealsMax, RealsMin, RealsAddParameter, RealsMultiplyByParameter, RealsAverage, RealsModulo, RealsMultiSum, RealsMultiMax, RealsMultiMin, RealsGreater, RealsLess, RealsGreaterThreshold, RealsLessThreshold, RealsHysteresis, RealsLimiter, RealsLine, ConversionsBooleanToInteger, ConversionsBooleanToReal, ConversionsIntegerToReal, ConversionsRealToInteger, DiscreteSampler, DiscreteZeroOrderHold, DiscreteUnitDelay, DiscreteTriggeredSampler, DiscreteTriggeredMax, DiscreteTriggeredMovingMean, RoutingBooleanScalarReplicator, RoutingIntegerScalarReplicator, RoutingRealScalarReplicator}
-use Rattle.cdl_kinds.specs.declared.value.Array.{Array}
+use Rattle.cdl_values.specs.declared.value.Array.{Array}
 use Rattle.cdl_kinds.specs.States.{IsAccumulatingState, IsDelayState, IsHoldState, IsIntervalUpTo, IsSamplerState, IsSound, IsTimerState, IsTimeUpTo, IsUnitDelayState}
-use Rattle.cdl_kinds.specs.Values.{real_at}
+use Rattle.cdl_values.specs.Values.{real_at}
 
 time_later : (last next w : ℤ) → last ≤ℤ next → IsTimeUpTo last w → IsTimeUpTo next w
 time_later last next w l s = record { low = s.low; high = omega (arith, ints, s.high) }

@@ -5,11 +5,11 @@ use Rattle.std.proofs.lemmas.Int.{ints}
 use Rattle.cdl_decimal.specs.Near.{InRange}
 use Rattle.cdl_kinds.specs.declared.kind.Kind.{Kind}
 use Rattle.cdl_kinds.specs.declared.kind.Kind.TheVariants.{LogicalAnd, LogicalOr, LogicalNand, LogicalNor, LogicalXor, LogicalNot, LogicalMultiAnd, LogicalMultiOr, LogicalEdge, LogicalFallingEdge, LogicalChange, LogicalLatch, LogicalToggle, LogicalPre, LogicalSwitch, IntegersSwitch, RealsSwitch, LogicalTimer, LogicalTimerAccumulating, LogicalTrueDelay, LogicalTrueFalseHold, LogicalSourcesConstant, IntegersSourcesConstant, RealsSourcesConstant, LogicalSourcesPulse, IntegersAbs, RealsAbs, IntegersAdd, IntegersSubtract, IntegersMultiply, IntegersMax, IntegersMin, IntegersAddParameter, IntegersMultiSum, IntegersEqual, IntegersGreater, IntegersGreaterEqual, IntegersLess, IntegersLessEqual, IntegersGreaterThreshold, IntegersGreaterEqualThreshold, IntegersLessThreshold, IntegersLessEqualThreshold, IntegersChange, IntegersOnCounter, RealsAdd, RealsSubtract, RealsMultiply, RealsDivide, RealsMax, RealsMin, RealsAddParameter, RealsMultiplyByParameter, RealsAverage, RealsModulo, RealsMultiSum, RealsMultiMax, RealsMultiMin, RealsGreater, RealsLess, RealsGreaterThreshold, RealsLessThreshold, RealsHysteresis, RealsLimiter, RealsLine, ConversionsBooleanToInteger, ConversionsBooleanToReal, ConversionsIntegerToReal, ConversionsRealToInteger, DiscreteSampler, DiscreteZeroOrderHold, DiscreteUnitDelay, DiscreteTriggeredSampler, DiscreteTriggeredMax, DiscreteTriggeredMovingMean, RoutingBooleanScalarReplicator, RoutingIntegerScalarReplicator, RoutingRealScalarReplicator}
-use Rattle.cdl_kinds.specs.declared.value.Array.{Array}
-use Rattle.cdl_kinds.specs.declared.value.ValueType.TheVariants.{Boolean, Integer, Real}
+use Rattle.cdl_values.specs.declared.value.Array.{Array}
+use Rattle.cdl_values.specs.declared.value.ValueType.TheVariants.{Boolean, Integer, Real}
 use Rattle.cdl_kinds.specs.Conditions.{Keeps, is_positive, is_window}
-use Rattle.cdl_kinds.specs.History.{History, Inputs, IsHistory, IsValue, Meaning, before, bit, last_time}
-use Rattle.cdl_kinds.specs.Laws.{one_holds}
+use Rattle.cdl_values.specs.History.{History, Signature, IsHistory, IsValue, Meaning, before, bit, last_time}
+use Rattle.cdl_kinds.proofs.Laws.{one_holds}
 use Rattle.cdl_kinds.specs.Meaning.Discrete.{picked, sampled}
 use Rattle.cdl_kinds.specs.Meaning.Edges.{latched, toggled}
 use Rattle.cdl_kinds.specs.Meaning.Integers.{counted}
@@ -18,13 +18,13 @@ use Rattle.cdl_kinds.specs.Meaning.Timers.{Held, accumulated, always_on, held}
 use Rattle.cdl_kinds.specs.Meanings.{meaning}
 use Rattle.cdl_kinds.specs.Ports.{inputs}
 use Rattle.cdl_kinds.specs.States.{IsAccumulatingState, IsHoldState, IsMeanState, IsSound, has_begun, hold_words, mean_words, state_of}
-use Rattle.cdl_kinds.specs.Values.{boolean_at, integer_at, real_at}
+use Rattle.cdl_values.specs.Values.{boolean_at, integer_at, real_at}
 use Rattle.cdl_kind_laws.proofs.ParameterRanges.{integer_in_range, not_empty, positive, real_in_range}
 use Rattle.cdl_kind_laws.proofs.Past.{IsHeldUpTo, accumulated_added, began_up_to, caught_real, first_real, greatest_real, held_up_to, interval_up_to, no_samples, picked_reals, sampled_reals, samples_count, second_real}
 use Rattle.cdl_kind_laws.proofs.ValueWords.{EachReal, before_value, bit_value, integer_fits, one_boolean, one_integer, padded_reals, three_values, two_booleans, two_values}
 use Rattle.cdl_kind_laws.proofs.Widths.{length-mean_words}
 
-accumulating_sound : {p : Inputs} {m : Meaning} (h : History) → IsHistory p m h → IsValue Boolean (before (pos 0) 0 h) → IsValue Boolean (before (pos 1) 1 h)
+accumulating_sound : {p : Signature} {m : Meaning} (h : History) → IsHistory p m h → IsValue Boolean (before (pos 0) 0 h) → IsValue Boolean (before (pos 1) 1 h)
     → IsAccumulatingState (accumulated h ∷ last_time h ∷ before (pos 0) 0 h ∷ before (pos 1) 1 h ∷ []) (last_time h)
 accumulating_sound [] s f g = record {
   size = refl;
@@ -47,7 +47,7 @@ hold_sound : (o : Option Held) (last : ℤ) → negsuc 0 ≤ℤ last → IsHeldU
 hold_sound None last l s = record { size = refl; output = inl refl; changed = record { low = omega (arith, ints); high = l } }
 hold_sound (Some y) last l s = record { size = refl; output = bit_value y.on; changed = s }
 
-last_low : {p : Inputs} {m : Meaning} (h : History) → IsHistory p m h → negsuc 0 ≤ℤ last_time h
+last_low : {p : Signature} {m : Meaning} (h : History) → IsHistory p m h → negsuc 0 ≤ℤ last_time h
 last_low [] s = omega (arith, ints)
 last_low (t ∷ h) s = omega (arith, ints, s.ticks.0.0)
 
@@ -55,7 +55,7 @@ counted_small : (v : List Array) (h : History) → Keeps IntegersOnCounter v →
 counted_small v [] k s = integer_in_range IntegersOnCounter v 0 k
 counted_small v (t ∷ h) k s = integer_fits (counted (integer_at v 0) (t ∷ h)) s.ticks.3
 
-mean_sound : {p : Inputs} {m : Meaning} (n : ℕ) (h : History) → 0 < n → 1 < p.count → p.sort 1 ≡ Boolean → EachReal (picked h) → IsHistory p m h → IsMeanState n (mean_words n h)
+mean_sound : {p : Signature} {m : Meaning} (n : ℕ) (h : History) → 0 < n → 1 < p.count → p.value_type 1 ≡ Boolean → EachReal (picked h) → IsHistory p m h → IsMeanState n (mean_words n h)
 mean_sound n [] l i e r s = record { size = length-mean_words n []; count = inl (refl, no_samples n); spare = refl; samples = padded_reals n (picked []) r }
 mean_sound n (t ∷ h) l i e r s = record {
   size = length-mean_words n (t ∷ h);

@@ -5,28 +5,29 @@ use Rattle.std.specs.Int.RustNames.{int_le}
 use Rattle.cdl_kinds.specs.declared.kind.Kind.{Kind}
 use Rattle.cdl_kinds.specs.declared.kind.Kind.TheVariants.{LogicalAnd, LogicalOr, LogicalNand, LogicalNor, LogicalXor, LogicalNot, LogicalMultiAnd, LogicalMultiOr, LogicalEdge, LogicalFallingEdge, LogicalChange, LogicalLatch, LogicalToggle, LogicalPre, LogicalSwitch, IntegersSwitch, RealsSwitch, LogicalTimer, LogicalTimerAccumulating, LogicalTrueDelay, LogicalTrueFalseHold, LogicalSourcesConstant, IntegersSourcesConstant, RealsSourcesConstant, LogicalSourcesPulse, IntegersAbs, RealsAbs, IntegersAdd, IntegersSubtract, IntegersMultiply, IntegersMax, IntegersMin, IntegersAddParameter, IntegersMultiSum, IntegersEqual, IntegersGreater, IntegersGreaterEqual, IntegersLess, IntegersLessEqual, IntegersGreaterThreshold, IntegersGreaterEqualThreshold, IntegersLessThreshold, IntegersLessEqualThreshold, IntegersChange, IntegersOnCounter, RealsAdd, RealsSubtract, RealsMultiply, RealsDivide, RealsMax, RealsMin, RealsAddParameter, RealsMultiplyByParameter, RealsAverage, RealsModulo, RealsMultiSum, RealsMultiMax, RealsMultiMin, RealsGreater, RealsLess, RealsGreaterThreshold, RealsLessThreshold, RealsHysteresis, RealsLimiter, RealsLine, ConversionsBooleanToInteger, ConversionsBooleanToReal, ConversionsIntegerToReal, ConversionsRealToInteger, DiscreteSampler, DiscreteZeroOrderHold, DiscreteUnitDelay, DiscreteTriggeredSampler, DiscreteTriggeredMax, DiscreteTriggeredMovingMean, RoutingBooleanScalarReplicator, RoutingIntegerScalarReplicator, RoutingRealScalarReplicator}
 use Rattle.cdl_decimal.specs.Counts.{dot, nearest_whole, real_add, real_div, real_line, real_mean, real_modulo, real_mul, real_sub, real_to_integer, real_weighted_sum}
-use Rattle.cdl_kinds.specs.declared.value.Array.{Array}
-use Rattle.cdl_kinds.specs.declared.value.ValueType.{ValueType}
-use Rattle.cdl_kinds.specs.declared.value.ValueType.TheVariants.{Boolean, Integer, Real}
+use Rattle.cdl_values.specs.declared.value.Array.{Array}
+use Rattle.cdl_values.specs.declared.value.ValueType.{ValueType}
+use Rattle.cdl_values.specs.declared.value.ValueType.TheVariants.{Boolean, Integer, Real}
 use Rattle.cdl_kinds.specs.Conditions.{Keeps}
-use Rattle.cdl_kinds.specs.History.{AreValues, History, Inputs, IsHistory, IsLater, IsTime, IsValue, Meaning, Tick, bit, is_on, tick, word}
+use Rattle.cdl_values.specs.History.{AreValues, History, Signature, IsHistory, IsLater, IsTime, IsValue, Meaning, Tick, bit, is_on, tick, word}
 use Rattle.cdl_kinds.specs.Meaning.Discrete.{picked, sampled}
-use Rattle.cdl_kinds.specs.Meaning.Integers.{counted, greater_of, lesser_of, magnitude}
+use Rattle.cdl_kinds.specs.Meaning.Integers.{counted, magnitude}
+use Rattle.cdl_values.specs.Extremes.{greater_of, lesser_of}
 use Rattle.cdl_kinds.specs.Meaning.Reals.{limited}
 use Rattle.cdl_kinds.specs.Meaning.Timers.{began}
 use Rattle.cdl_kinds.specs.Meanings.{meaning}
-use Rattle.cdl_kinds.specs.Ports.{inputs, outputs, size_of}
-use Rattle.cdl_kinds.specs.Values.{boolean_at, integer_at, integers_at, real_at, reals_at}
+use Rattle.cdl_kinds.specs.Ports.{inputs, outputs, nin_or_nout}
+use Rattle.cdl_values.specs.Values.{boolean_at, integer_at, integers_at, real_at, reals_at}
 use Rattle.cdl_kind_laws.proofs.ParameterRanges.{integer_in_range, real_in_range}
 use Rattle.cdl_kind_laws.proofs.Past.{accumulated_added, caught_real, first_real, greatest_real, past, picked_reals, run_in_range, runs_up_to, sampled_reals, second_real}
 use Rattle.cdl_kind_laws.proofs.TypedWords.{add_real, div_real, line_real, mean_real, modulo_real, mul_real, sub_real, weighted_real, added_in_range, any_typed, choose_value, copies_typed, each_real, flag_typed, in_range_integer, integer_typed, least_real, million_in_range, three_typed, two_typed, word_typed}
 use Rattle.cdl_kind_laws.proofs.ValueWords.{EachReal, before_value, bit_value}
 
 -- the inputs of the latest tick
-values : {p : Inputs} {m : Meaning} (t : Tick) (h : History) → IsHistory p m (t ∷ h) → AreValues p t.ins
+values : {p : Signature} {m : Meaning} (t : Tick) (h : History) → IsHistory p m (t ∷ h) → AreValues p t.ins
 values t h s = s.ticks.2
 
-all_reals : {p : Inputs} {m : Meaning} (t : Tick) (h : History) → ((i : ℕ) → p.sort i ≡ Real) → IsHistory p m (t ∷ h) → EachReal t.ins
+all_reals : {p : Signature} {m : Meaning} (t : Tick) (h : History) → ((i : ℕ) → p.value_type i ≡ Real) → IsHistory p m (t ∷ h) → EachReal t.ins
 all_reals {p} t h f s = each_real t.ins (λ i l. subst (λ (r : ValueType). IsValue r (word t.ins i)) (f i) (s.ticks.2.each i (omega (arith, s.ticks.2.size))))
 
 typed_at : (k : Kind) (v : List Array) (t : Tick) (h : History) (y : List ℤ) → Keeps k v → IsHistory (inputs k v) (meaning k v) (t ∷ h) → meaning k v h t.time t.ins ≡ Some y → AreValues (outputs k v) y
@@ -105,9 +106,9 @@ typed_at DiscreteUnitDelay v t h y k s e = word_typed Real _ y (second_real (rea
 typed_at DiscreteTriggeredSampler v t h y k s e = word_typed Real _ y (caught_real (real_at v 0) (t ∷ h) (real_in_range DiscreteTriggeredSampler v 0 k) (omega arith) refl s) e
 typed_at DiscreteTriggeredMax v t h y k s e = word_typed Real _ y (greatest_real (picked (t ∷ h)) (picked_reals (t ∷ h) (omega arith) refl s)) e
 typed_at DiscreteTriggeredMovingMean v t h y k s e = any_typed Real (real_mean (take (unsigned_abs (integer_at v 0)) (picked (t ∷ h)))) y (mean_real (take (unsigned_abs (integer_at v 0)) (picked (t ∷ h)))) e
-typed_at RoutingBooleanScalarReplicator v t h y k s e = copies_typed Boolean (size_of v) (word t.ins 0) y ((values t h s).each 0 (omega arith)) e
-typed_at RoutingIntegerScalarReplicator v t h y k s e = copies_typed Integer (size_of v) (word t.ins 0) y ((values t h s).each 0 (omega arith)) e
-typed_at RoutingRealScalarReplicator v t h y k s e = copies_typed Real (size_of v) (word t.ins 0) y ((values t h s).each 0 (omega arith)) e
+typed_at RoutingBooleanScalarReplicator v t h y k s e = copies_typed Boolean (nin_or_nout v) (word t.ins 0) y ((values t h s).each 0 (omega arith)) e
+typed_at RoutingIntegerScalarReplicator v t h y k s e = copies_typed Integer (nin_or_nout v) (word t.ins 0) y ((values t h s).each 0 (omega arith)) e
+typed_at RoutingRealScalarReplicator v t h y k s e = copies_typed Real (nin_or_nout v) (word t.ins 0) y ((values t h s).each 0 (omega arith)) e
 
 some_of : {X : Type 0} (o : Option X) (x : X) → o ≡ Some x → IsSome o
 some_of o x e = rw e refl

@@ -3,17 +3,18 @@ use Rattle.std.specs.Prelude.{ℕ, zero, suc, ℤ, ◌≡◌, true, List, [], No
 use Rattle.cdl_decimal.specs.Counts.{real_add, real_sub, real_mul, real_div, real_modulo}
 use Rattle.cdl_kinds.specs.declared.kind.Kind.{Kind}
 use Rattle.cdl_kinds.specs.declared.kind.Kind.TheVariants.{LogicalAnd, LogicalOr, LogicalNand, LogicalNor, LogicalXor, LogicalNot, LogicalMultiAnd, LogicalMultiOr, LogicalEdge, LogicalFallingEdge, LogicalChange, LogicalLatch, LogicalToggle, LogicalPre, LogicalSwitch, IntegersSwitch, RealsSwitch, LogicalTimer, LogicalTimerAccumulating, LogicalTrueDelay, LogicalTrueFalseHold, LogicalSourcesConstant, IntegersSourcesConstant, RealsSourcesConstant, LogicalSourcesPulse, IntegersAbs, RealsAbs, IntegersAdd, IntegersSubtract, IntegersMultiply, IntegersMax, IntegersMin, IntegersAddParameter, IntegersMultiSum, IntegersEqual, IntegersGreater, IntegersGreaterEqual, IntegersLess, IntegersLessEqual, IntegersGreaterThreshold, IntegersGreaterEqualThreshold, IntegersLessThreshold, IntegersLessEqualThreshold, IntegersChange, IntegersOnCounter, RealsAdd, RealsSubtract, RealsMultiply, RealsDivide, RealsMax, RealsMin, RealsAddParameter, RealsMultiplyByParameter, RealsAverage, RealsModulo, RealsMultiSum, RealsMultiMax, RealsMultiMin, RealsGreater, RealsLess, RealsGreaterThreshold, RealsLessThreshold, RealsHysteresis, RealsLimiter, RealsLine, ConversionsBooleanToInteger, ConversionsBooleanToReal, ConversionsIntegerToReal, ConversionsRealToInteger, DiscreteSampler, DiscreteZeroOrderHold, DiscreteUnitDelay, DiscreteTriggeredSampler, DiscreteTriggeredMax, DiscreteTriggeredMovingMean, RoutingBooleanScalarReplicator, RoutingIntegerScalarReplicator, RoutingRealScalarReplicator}
-use Rattle.cdl_kinds.specs.declared.value.Array.{Array}
-use Rattle.cdl_kinds.specs.History.{Meaning, word, bit, is_on}
+use Rattle.cdl_values.specs.declared.value.Array.{Array}
+use Rattle.cdl_values.specs.History.{Meaning, word, bit, is_on}
 use Rattle.cdl_kinds.specs.Meaning.Gates.{both, either, not_both, neither, just_one, gate, negation, all_on, any_on, switch}
 use Rattle.cdl_kinds.specs.Meaning.Edges.{is_edge, is_falling, is_change, edge, pre, latch, toggle}
-use Rattle.cdl_kinds.specs.Meaning.Integers.{magnitude, sum_of, difference_of, product_of, greater_of, lesser_of, integer_of_one, integer_of_two, integer_add_parameter, integer_multi_sum, is_equal, is_greater, is_greater_equal, is_less, is_less_equal, compare, compare_threshold, integer_change, on_counter}
-use Rattle.cdl_kinds.specs.Meaning.Reals.{absolute, greater, lesser, real_of_one, real_of_two, real_add_parameter, real_multiply_by_parameter, average, real_multi_sum, greatest, least, extreme, remembering, above, below, above_threshold, below_threshold, between, limiter, line_through}
+use Rattle.cdl_kinds.specs.Meaning.Integers.{magnitude, sum_of, difference_of, product_of, integer_of_one, integer_of_two, integer_add_parameter, integer_multi_sum, is_equal, is_greater, is_greater_equal, is_less, is_less_equal, compare, compare_threshold, integer_change, on_counter}
+use Rattle.cdl_values.specs.Extremes.{greater_of, lesser_of, greatest, least}
+use Rattle.cdl_kinds.specs.Meaning.Reals.{absolute, greater, lesser, real_of_one, real_of_two, real_add_parameter, real_multiply_by_parameter, average, real_multi_sum, extreme, remembering, above, below, above_threshold, below_threshold, between, limiter, line_through}
 use Rattle.cdl_kinds.specs.Meaning.Conversions.{constant, choice, integer_to_real, to_nearest_integer, replicator}
 use Rattle.cdl_kinds.specs.Meaning.Timers.{timer, timer_accumulating, true_delay, true_false_hold, pulse}
 use Rattle.cdl_kinds.specs.Meaning.Discrete.{sampler, unit_delay, triggered_sampler, triggered_max, triggered_moving_mean}
 use Rattle.cdl_kinds.specs.StateWords.{state_words}
-use Rattle.cdl_kinds.specs.Values.{boolean_at, integer_at, integers_at, real_at, reals_at}
+use Rattle.cdl_values.specs.Values.{boolean_at, integer_at, integers_at, real_at, reals_at}
 
 -- what a block of the kind with these parameters gives at a time, after these ticks and with these inputs, or none
 abbrev pub meaning : Kind → List Array → Meaning
@@ -102,7 +103,7 @@ WithoutState zero P = P
 WithoutState (suc n) P = ⊥
 
 -- where a block may have no value whatever its state: a kind without state words where its meaning has none, and a counter where its trigger is true
-abbrev pub Lacks : Kind → List Array → ℤ → List ℤ → Type 0
-Lacks IntegersOnCounter v now x = is_on (word x 0) ≡ true
-Lacks DiscreteTriggeredMovingMean v now x = ⊥
-Lacks k v now x = WithoutState (state_words k v) (meaning k v [] now x ≡ None)
+abbrev pub MayLack : Kind → List Array → ℤ → List ℤ → Type 0
+MayLack IntegersOnCounter v now x = is_on (word x 0) ≡ true
+MayLack DiscreteTriggeredMovingMean v now x = ⊥
+MayLack k v now x = WithoutState (state_words k v) (meaning k v [] now x ≡ None)

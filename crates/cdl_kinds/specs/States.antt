@@ -2,15 +2,15 @@
 use Rattle.std.specs.Prelude.{ℕ, zero, suc, ◌+◌, ◌≡◌, ◌⊎◌, ℤ, pos, negsuc, ◌*ℤ◌, ◌≤ℤ◌, Bool, true, false, List, [], ◌∷◌, Option, Some, None, drop, length, take, unsigned_abs}
 use Rattle.cdl_kinds.specs.declared.kind.Kind.{Kind}
 use Rattle.cdl_kinds.specs.declared.kind.Kind.TheVariants.{LogicalEdge, LogicalFallingEdge, LogicalChange, LogicalLatch, LogicalToggle, LogicalPre, LogicalTimer, LogicalTimerAccumulating, LogicalTrueDelay, LogicalTrueFalseHold, IntegersChange, IntegersOnCounter, RealsGreater, RealsLess, RealsGreaterThreshold, RealsLessThreshold, RealsHysteresis, DiscreteSampler, DiscreteZeroOrderHold, DiscreteUnitDelay, DiscreteTriggeredSampler, DiscreteTriggeredMax, DiscreteTriggeredMovingMean}
-use Rattle.cdl_kinds.specs.declared.value.Array.{Array}
-use Rattle.cdl_kinds.specs.declared.value.ValueType.{ValueType}
-use Rattle.cdl_kinds.specs.declared.value.ValueType.TheVariants.{Boolean, Integer, Real}
-use Rattle.cdl_kinds.specs.History.{AreValues, History, IsValue, before, bit, booleans, integers, last_time, reals, typed, word}
-use Rattle.cdl_kinds.specs.Values.{boolean_at, integer_at, real_at}
+use Rattle.cdl_values.specs.declared.value.Array.{Array}
+use Rattle.cdl_values.specs.declared.value.ValueType.TheVariants.{Boolean, Integer, Real}
+use Rattle.cdl_values.specs.History.{AreValues, History, IsValue, before, bit, booleans, integers, last_time, reals, typed, word}
+use Rattle.cdl_values.specs.Values.{boolean_at, integer_at, real_at}
 use Rattle.cdl_kinds.specs.Meaning.Discrete.{caught, first_or, interval, picked, sampled, second_or}
 use Rattle.cdl_kinds.specs.Meaning.Edges.{latched, toggled}
 use Rattle.cdl_kinds.specs.Meaning.Integers.{counted}
-use Rattle.cdl_kinds.specs.Meaning.Reals.{above, above_threshold, below, below_threshold, between, greatest, remembered}
+use Rattle.cdl_kinds.specs.Meaning.Reals.{above, above_threshold, below, below_threshold, between, remembered}
+use Rattle.cdl_values.specs.Extremes.{greatest}
 use Rattle.cdl_kinds.specs.Meaning.Timers.{Held, accumulated, always_on, began, held}
 
 -- the word of a time, -1 for none

@@ -3,8 +3,9 @@ use Rattle.std.proofs.Common.{◌≡◌, ℕ, ◌+◌, true, false, ◌||◌, �
 use Rattle.std.proofs.lemmas.Bool.{eqb-false}
 use Rattle.std.proofs.lemmas.Bool.Decides.{nat_tests}
 use Rattle.std.specs.List.{list_all, prefix_len}
+use Rattle.cdl_source.specs.Identifiers.{is_digit, is_initial}
 use Rattle.cdl_source.specs.declared.place.Sort.{Sort}
-use Rattle.cdl_lex.specs.Spellings.{Bytes, is_blank, is_digit, is_initial, Spelling}
+use Rattle.cdl_lex.specs.Spellings.{Bytes, is_blank, Spelling}
 use Rattle.cdl_lex.specs.Splits.{IsToken, is_inner, EndsLine, HoldsNoClose, IsGap, blank, line, block}
 use Rattle.cdl_lex.specs.Steps.{block_len}
 use Rattle.cdl_lex.proofs.Runs.{run_through, run_none, same_front}

@@ -4,8 +4,9 @@ use Rattle.std.proofs.lemmas.Bool.{eqb-true}
 use Rattle.std.proofs.lemmas.Bool.Decides.{nat_tests}
 use Rattle.std.proofs.Math.Seq.{drop-append_seam, drop-append-add}
 use Rattle.std.specs.List.{prefix_len}
+use Rattle.cdl_source.specs.Identifiers.{is_digit}
 use Rattle.cdl_decimal.specs.Spells.{AllDigits, IsSign, none, plus, minus, IsFraction, no_point, point, IsExponent, no_exponent, exponent}
-use Rattle.cdl_lex.specs.Spellings.{Bytes, is_digit}
+use Rattle.cdl_lex.specs.Spellings.{Bytes}
 use Rattle.cdl_lex.specs.Steps.{fraction_len, sign_len, with_digits, exponent_len, tail_len}
 use Rattle.cdl_lex.proofs.Runs.{Cut, cut, run_cuts, run_through}
 use Rattle.cdl_lex.proofs.Spelled.{digit_is, digits_pass, passing_digits, IsNumber}

@@ -4,10 +4,11 @@ use Rattle.std.proofs.lemmas.Bool.{eqb-false}
 use Rattle.std.proofs.lemmas.Bool.Decides.{nat_tests}
 use Rattle.std.proofs.Math.Seq.{take-append_seam}
 use Rattle.std.specs.List.{list_all, prefix_len}
+use Rattle.cdl_source.specs.Identifiers.{is_digit, is_initial, is_word_byte}
 use Rattle.cdl_source.specs.declared.place.Sort.{Sort}
 use Rattle.cdl_source.specs.declared.place.Sort.TheVariants.{Integer, Real, Str, Symbol}
 use Rattle.cdl_decimal.specs.Spells.{AllDigits, IsFraction, IsExponent}
-use Rattle.cdl_lex.specs.Spellings.{Bytes, is_blank, is_digit, is_initial, is_word, symbols, is_symbol, is_pair, Spelling, integer, real, string, symbol, pair}
+use Rattle.cdl_lex.specs.Spellings.{Bytes, is_blank, symbols, is_symbol, is_pair, Spelling, integer, real, string, symbol, pair}
 use Rattle.cdl_lex.specs.Splits.{IsLongest, StandsApart, IsToken, is_inner, IsGap, blank, line, block, NothingBegins}
 use Rattle.cdl_lex.specs.Steps.{word_sort, number_sort, tail_len, inside_len, block_len, IsSign, BeginsWith, with_gap, with_token}
 use Rattle.cdl_lex.proofs.Runs.{byte_behind, Cut, cut, run_cuts}
@@ -23,21 +24,21 @@ apart c s b f e d r g = let same : c ≡ 47 = cc in absurd (eqb-false c 47 f sam
 initial_no_slash : (c : ℕ) → is_initial c ≡ true → (c == 47) ≡ false
 initial_no_slash c e = grind (arith, nat_tests)
 
-word_longest : (c : ℕ) (s b : Bytes) → is_initial c ≡ true → ((x : ℕ) (r : Bytes) → b ≡ x ∷ r → is_word x ≡ false) → IsLongest (c ∷ s) b
+word_longest : (c : ℕ) (s b : Bytes) → is_initial c ≡ true → ((x : ℕ) (r : Bytes) → b ≡ x ∷ r → is_word_byte x ≡ false) → IsLongest (c ∷ s) b
 word_longest c s b i stop x m r k e y =
-    let all : list_all is_word (s ++ x ∷ m) ≡ true = subst (λ z. Fits z c (s ++ x ∷ m)) (head_letter c i) (fits y c (s ++ x ∷ m) refl) in
-    let never : true ≡ false = sym (byte_behind is_word s m x all) ∙ stop x (m ++ r) e in cc
+    let all : list_all is_word_byte (s ++ x ∷ m) ≡ true = subst (λ z. Fits z c (s ++ x ∷ m)) (head_letter c i) (fits y c (s ++ x ∷ m) refl) in
+    let never : true ≡ false = sym (byte_behind is_word_byte s m x all) ∙ stop x (m ++ r) e in cc
 
-word_cut : (c : ℕ) (b : Bytes) (n : ℕ) → is_initial c ≡ true → Cut is_word b n → BeginsWith (c ∷ b) (Some (word_sort (take (suc n) (c ∷ b)))) (suc n)
+word_cut : (c : ℕ) (b : Bytes) (n : ℕ) → is_initial c ≡ true → Cut is_word_byte b n → BeginsWith (c ∷ b) (Some (word_sort (take (suc n) (c ∷ b)))) (suc n)
 word_cut c _ _ i (cut s b all stop) =
     subst (λ z. BeginsWith (c ∷ (s ++ b)) (Some (word_sort (c ∷ z))) (suc (length s))) (sym (take-append_seam s b))
     (with_token (c ∷ s) b (record { spelling = word_spelling c s i all; longest = word_longest c s b i stop; apart = apart c s b (initial_no_slash c i) }))
 
-pub word_begins : (b : Bytes) (n : ℕ) → 0 < length b → is_initial (get_or b 0 0) ≡ true → n ≡ 1 + prefix_len is_word (drop 1 b) → BeginsWith b (Some (word_sort (take n b))) n
+pub word_begins : (b : Bytes) (n : ℕ) → 0 < length b → is_initial (get_or b 0 0) ≡ true → n ≡ 1 + prefix_len is_word_byte (drop 1 b) → BeginsWith b (Some (word_sort (take n b))) n
 word_begins [] n some i e = let never : ⊥ = omega arith in absurd never
 word_begins (c ∷ b) n some i e =
-    let size : suc (prefix_len is_word b) ≡ n = omega arith in
-    subst (λ z. BeginsWith (c ∷ b) (Some (word_sort (take z (c ∷ b)))) z) size (word_cut c b (prefix_len is_word b) i (run_cuts is_word b))
+    let size : suc (prefix_len is_word_byte b) ≡ n = omega arith in
+    subst (λ z. BeginsWith (c ∷ b) (Some (word_sort (take z (c ∷ b)))) z) size (word_cut c b (prefix_len is_word_byte b) i (run_cuts is_word_byte b))
 
 -- ---- numbers
 

@@ -2,15 +2,16 @@
 use Rattle.std.proofs.Common.{◌≡◌, Bool, true, false, if◌then◌else◌, ℕ, ◌+◌, ◌-◌, ◌≤◌, ◌<◌, List, [], ◌∷◌, ◌++◌, length, take, drop, arith, refl, sym, ap, ◌∙◌, subst, length-append, length-drop}
 use Rattle.std.proofs.lemmas.List.{drop-drop, length-take}
 use Rattle.std.proofs.lemmas.Slice.Eq.{bytes_eq-Decides}
-use Rattle.std.specs.Str.{bytes_eq}
+use Rattle.std.specs.Str.{bytes_eq, IsUtf8}
 use Rattle.std.proofs.lemmas.List.Elements.{All-nil, All-cons}
 use Rattle.std.proofs.Math.Seq.{take-append_seam, drop-append_seam}
 use Rattle.cdl_source.specs.declared.place.Sort.{Sort}
 use Rattle.cdl_source.specs.declared.place.Token.{Token}
-use Rattle.cdl_lex.specs.TokenList.{text_of, LiesWithin, LieWithin, RiseFrom, Rise}
+use Rattle.cdl_lex.specs.TokenList.{text_of, longest_text, LiesWithin, LieWithin, RiseFrom, Rise}
 use Rattle.cdl_lex.specs.Spellings.{Bytes, Spelling}
 use Rattle.cdl_lex.specs.Splits.{token, Reaches, here, gap_then, token_then, mark, Splits}
-use Rattle.cdl_lex.specs.Texts.{IsSpelled, AreSpelled}
+use Rattle.cdl_lex.specs.Texts.{IsSpelled, AreSpelled, FitLimits, AreTokens}
+use Rattle.cdl_lex.specs.Rules.{BreaksNone}
 use Rattle.cdl_lex.proofs.Spelled.{not_empty}
 
 some : (s : Bytes) → (s ≡ [] → ⊥) → 0 < length s
@@ -66,3 +67,29 @@ mark_within bytes = go (bytes_eq (take 3 bytes) (239 ∷ 187 ∷ 191 ∷ [])) re
 
 pub tokens_lie : (bytes : Bytes) (ts : List Token) → Splits bytes ts → LieWithin bytes ts
 tokens_lie bytes ts h = let left = length-drop (mark bytes) bytes in let most = mark_within bytes in lie h bytes (omega arith)
+
+-- each token has a byte of its own
+few : {at : ℕ} {b r : Bytes} {ts : List Token} → Reaches at b ts r → length ts ≤ length b
+few (here at b) = omega arith
+few (gap_then {s = s} {b = b} g h) = let both = length-append s b in let less = few h in omega arith
+few (token_then {s = s} {b = b} t h) =
+    let both = length-append s b in
+    let more : 0 < length s = some s (not_empty t.spelling) in
+    let less = few h in
+    omega arith
+
+pub tokens_few : (bytes : Bytes) (ts : List Token) → Splits bytes ts → length ts ≤ length bytes
+tokens_few bytes ts h = let less = few h in let left = length-drop (mark bytes) bytes in omega arith
+
+pub are_tokens : (bytes : Bytes) (ts : List Token) → BreaksNone bytes → Splits bytes ts → length bytes ≤ longest_text → IsUtf8 bytes → FitLimits bytes ts → AreTokens bytes ts
+are_tokens bytes ts none splits short utf8 fit = record {
+  unbroken = none;
+  splits = splits;
+  short = short;
+  utf8 = utf8;
+  few = tokens_few bytes ts splits;
+  within = tokens_lie bytes ts splits;
+  rise = tokens_rise bytes ts splits;
+  spelled = tokens_spelled bytes ts splits;
+  fit = fit;
+}

@@ -5,11 +5,11 @@ use Rattle.std.proofs.lemmas.Bool.Decides.{nat_tests}
 use Rattle.std.proofs.lemmas.Slice.Eq.{bytes_eq-Decides}
 use Rattle.std.specs.List.{list_all, list_any}
 use Rattle.std.specs.Str.{bytes_eq}
+use Rattle.cdl_source.specs.Identifiers.{is_digit, is_initial, is_word_byte, keywords, is_keyword}
 use Rattle.cdl_source.specs.declared.place.Sort.{Sort}
 use Rattle.cdl_source.specs.declared.place.Sort.TheVariants.{Identifier, Integer, Real, Str, Keyword, Symbol}
 use Rattle.cdl_decimal.specs.Spells.{IsDigit, AllDigits, IsFraction, no_point, point, IsExponent, no_exponent, exponent}
-use Rattle.cdl_lex.specs.Keywords.{keywords, is_keyword}
-use Rattle.cdl_lex.specs.Spellings.{Bytes, is_blank, is_digit, is_initial, is_word, symbols, is_symbol, is_pair, IsInside, Spelling, identifier, keyword, integer, real, string, symbol, pair}
+use Rattle.cdl_lex.specs.Spellings.{Bytes, is_blank, symbols, is_symbol, is_pair, IsInside, Spelling, identifier, keyword, integer, real, string, symbol, pair}
 use Rattle.cdl_lex.specs.Steps.{word_sort}
 use Rattle.cdl_lex.proofs.Runs.{both_true}
 
@@ -33,7 +33,7 @@ passing_digits (d ∷ ds) e = let both = both_true (is_digit d) (list_all is_dig
 
 abbrev is_name : Bytes → Bool
 is_name [] = false
-is_name (c ∷ cs) = is_initial c && list_all is_word cs
+is_name (c ∷ cs) = is_initial c && list_all is_word_byte cs
 
 keywords_are_names : list_all is_name keywords ≡ true
 unfolding keywords
@@ -141,7 +141,7 @@ abbrev pub IsOneOrPair : ℕ → Bytes → Type 0
 IsOneOrPair c cs = (cs ≡ []) ⊎ ((d : ℕ) × (cs ≡ d ∷ []) × (is_pair c d ≡ true))
 
 pub data View : Bytes → Sort → Type 0 where
-  a_word : (c : ℕ) (cs : Bytes) → is_initial c ≡ true → list_all is_word cs ≡ true → View (c ∷ cs) (word_sort (c ∷ cs))
+  a_word : (c : ℕ) (cs : Bytes) → is_initial c ≡ true → list_all is_word_byte cs ≡ true → View (c ∷ cs) (word_sort (c ∷ cs))
   a_number : (c : ℕ) (cs : Bytes) → is_digit c ≡ true → IsNumber (c ∷ cs) → View (c ∷ cs) (if list_all is_digit (c ∷ cs) then Integer else Real)
   a_string : (b : Bytes) → IsInside b → View (34 ∷ (b ++ 34 ∷ [])) Str
   a_sign : (c : ℕ) (cs : Bytes) → is_symbol c ≡ true → IsOneOrPair c cs → View (c ∷ cs) Symbol
@@ -149,7 +149,7 @@ pub data View : Bytes → Sort → Type 0 where
 keyword_view : (s : Bytes) → is_keyword s ≡ true → is_name s ≡ true → View s Keyword
 keyword_view [] k n = cc
 keyword_view (c ∷ cs) k n =
-    let both = both_true (is_initial c) (list_all is_word cs) n in
+    let both = both_true (is_initial c) (list_all is_word_byte cs) n in
     subst (View (c ∷ cs)) (ap (λ q. if q then Keyword else Identifier) k) (a_word c cs both.0 both.1)
 
 integer_view : (ds : Bytes) → 0 < length ds → AllDigits ds → View ds Integer
@@ -216,7 +216,7 @@ view (string b h) = a_string b h
 view (symbol c f) = a_sign c [] f (inl refl)
 view (pair c d f) = a_sign c (d ∷ []) (pair_is_symbol c d f) (inr (d, refl, f))
 
-pub word_spelling : (c : ℕ) (cs : Bytes) → is_initial c ≡ true → list_all is_word cs ≡ true → Spelling (c ∷ cs) (word_sort (c ∷ cs))
+pub word_spelling : (c : ℕ) (cs : Bytes) → is_initial c ≡ true → list_all is_word_byte cs ≡ true → Spelling (c ∷ cs) (word_sort (c ∷ cs))
 word_spelling c cs i all = go (is_keyword (c ∷ cs)) refl
   where
     go : (q : Bool) → is_keyword (c ∷ cs) ≡ q → Spelling (c ∷ cs) (if q then Keyword else Identifier)
@@ -235,7 +235,7 @@ abbrev pub head : ℕ → Head
 head c = if is_initial c then Letter else (if is_digit c then Numeral else (if c == 34 then Quote else Sign))
 
 abbrev pub Fits : Head → ℕ → Bytes → Type 0
-Fits Letter c cs = list_all is_word cs ≡ true
+Fits Letter c cs = list_all is_word_byte cs ≡ true
 Fits Numeral c cs = IsNumber (c ∷ cs)
 Fits Quote c cs = (b : Bytes) × IsInside b × (cs ≡ b ++ 34 ∷ [])
 Fits Sign c cs = (is_symbol c ≡ true) × IsOneOrPair c cs
@@ -263,7 +263,7 @@ head_sign c p = head_sign_of c p.no_initial p.no_digit p.no_quote
 view_fits : {s : Bytes} {k : Sort} → View s k → (c : ℕ) (cs : Bytes) → s ≡ c ∷ cs → Fits (head c) c cs
 view_fits (a_word d ds i all) c cs e =
     let same : d ≡ c = cc in let rest : ds ≡ cs = cc in
-    subst (λ z. Fits (head z) z cs) same (subst (λ z. Fits z d cs) (sym (head_letter d i)) (subst (λ z. list_all is_word z ≡ true) rest all))
+    subst (λ z. Fits (head z) z cs) same (subst (λ z. Fits z d cs) (sym (head_letter d i)) (subst (λ z. list_all is_word_byte z ≡ true) rest all))
 view_fits (a_number d ds h n) c cs e =
     let same : d ≡ c = cc in let rest : ds ≡ cs = cc in
     subst (λ z. Fits (head z) z cs) same (subst (λ z. Fits z d cs) (sym (head_numeral d h)) (subst (λ z. IsNumber (d ∷ z)) rest n))

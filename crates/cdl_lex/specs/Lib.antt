@@ -1,12 +1,11 @@
 pub mod TokenList
-pub mod Keywords
 pub mod Spellings
 pub mod Splits
 pub mod Roles
 pub mod Limits
 pub mod Rules
 pub mod Verdict
-pub mod Classes
+pub mod ByteSets
 pub mod Steps
 pub mod Found
 pub mod Texts

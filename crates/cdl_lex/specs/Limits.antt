@@ -1,5 +1,5 @@
 -- The limits of literals, of nesting, and of the operators of an expression.
-use Rattle.std.specs.Prelude.{◌≡◌, ◌⊎◌, ◌<◌, ℕ, ◌+◌, ◌-◌, ◌==◌, true, false, if◌then◌else◌, List, [], ◌∷◌, ◌++◌, length, fold, Err}
+use Rattle.std.specs.Prelude.{◌≡◌, ◌⊎◌, ◌<◌, ℕ, ◌+◌, ◌-◌, ◌==◌, Bool, false, not, ◌&&◌, if◌then◌else◌, List, [], ◌∷◌, reverse, length, Err}
 use Rattle.cdl_source.specs.declared.place.Sort.{Sort}
 use Rattle.cdl_source.specs.declared.place.Sort.TheVariants as sort
 use Rattle.cdl_source.specs.declared.place.Token.{Token}
@@ -7,11 +7,9 @@ use Rattle.cdl_decimal.specs.Spells.{number, Parses}
 use Rattle.cdl_decimal.specs.declared.numeral.DecimalError.TheVariants.{TooLong, OutOfRange}
 use Rattle.cdl_lex.specs.declared.role.Role.{Role}
 use Rattle.cdl_lex.specs.declared.role.Role.TheVariants as r
-use Rattle.cdl_lex.specs.declared.depth.Depth.{Depth}
-use Rattle.cdl_lex.specs.declared.counts.Counts.{Counts}
 use Rattle.cdl_lex.specs.Spellings.{Bytes}
 use Rattle.cdl_lex.specs.TokenList.{text_of}
-use Rattle.cdl_lex.specs.Roles.{role_of}
+use Rattle.cdl_lex.specs.Roles.{role_of, is_end, is_semicolon, is_if, is_operator, is_lead}
 
 -- ---- literals and identifiers
 
@@ -40,53 +38,63 @@ IsPastLimits bytes t = IsPast t.sort (text_of bytes t)
 
 -- ---- nesting
 
--- the depth behind a token: the open brackets, and the open blocks and packages, which count outside brackets alone; neither
--- number goes below 0
-abbrev pub nested : Depth → Role → Depth
-nested d r.Opening = record { brackets = d.brackets + 1; classes = d.classes }
-nested d r.Closing = record { brackets = d.brackets - 1; classes = d.classes }
-nested d r.Class = record { brackets = d.brackets; classes = if d.brackets == 0 then d.classes + 1 else d.classes }
-nested d r.End = record { brackets = d.brackets; classes = if d.brackets == 0 then d.classes - 1 else d.classes }
-nested d r.Lead = d
-nested d r.Semicolon = d
-nested d r.If = d
-nested d r.Operator = d
-nested d r.Other = d
+-- Here and below the tokens before a place are listed from the nearest one back.
 
-abbrev pub no_depth : Depth
-no_depth = record { brackets = 0; classes = 0 }
+-- The last of the tokens has a role of this kind.
+abbrev pub follows : (Role → Bool) → Bytes → List Token → Bool
+follows kind bytes [] = false
+follows kind bytes (t ∷ earlier) = kind (role_of bytes t)
 
--- the depth behind tokens
-abbrev pub depth_behind : Bytes → List Token → Depth
-depth_behind bytes ts = fold (λ d t. nested d (role_of bytes t)) no_depth ts
+-- a number of open brackets behind one token more: it does not go below 0
+abbrev pub with_bracket : Role → ℕ → ℕ
+with_bracket r.Opening n = n + 1
+with_bracket r.Closing n = n - 1
+with_bracket _ n = n
 
-abbrev pub whole_depth : Depth → ℕ
-whole_depth d = d.brackets + d.classes
+-- the open brackets
+abbrev pub brackets : Bytes → List Token → ℕ
+brackets bytes [] = 0
+brackets bytes (t ∷ earlier) = with_bracket (role_of bytes t) (brackets bytes earlier)
+
+-- a number of open blocks, packages and loops behind one token more outside brackets: a `for` behind `end` opens none, and the number
+-- does not go below 0
+abbrev pub with_class : Role → Bool → ℕ → ℕ
+with_class r.Class follows_end n = n + 1
+with_class r.For follows_end n = if follows_end then n else n + 1
+with_class r.End follows_end n = n - 1
+with_class _ follows_end n = n
+
+-- the open blocks, packages and loops; what stands in brackets doesn't count
+abbrev pub classes : Bytes → List Token → ℕ
+classes bytes [] = 0
+classes bytes (t ∷ earlier) =
+    if brackets bytes earlier == 0 then with_class (role_of bytes t) (follows is_end bytes earlier) (classes bytes earlier) else classes bytes earlier
+
+abbrev pub depth : Bytes → List Token → ℕ
+depth bytes earlier = brackets bytes earlier + classes bytes earlier
 
 abbrev pub deepest : ℕ
 deepest = 64
 
 -- ---- operators
 
--- the counts behind a token: the `if` and the counted operators since the last `;`, and whether the token is one behind which no
--- operator counts
-abbrev pub counted : Counts → Role → Counts
-counted c r.Opening = record { ifs = c.ifs; operators = c.operators; behind_lead = true }
-counted c r.Lead = record { ifs = c.ifs; operators = c.operators; behind_lead = true }
-counted c r.Semicolon = record { ifs = 0; operators = 0; behind_lead = false }
-counted c r.If = record { ifs = c.ifs + 1; operators = c.operators; behind_lead = false }
-counted c r.Operator = record { ifs = c.ifs; operators = if c.behind_lead then c.operators else c.operators + 1; behind_lead = false }
-counted c r.Closing = record { ifs = c.ifs; operators = c.operators; behind_lead = false }
-counted c r.Class = record { ifs = c.ifs; operators = c.operators; behind_lead = false }
-counted c r.End = record { ifs = c.ifs; operators = c.operators; behind_lead = false }
-counted c r.Other = record { ifs = c.ifs; operators = c.operators; behind_lead = false }
+-- a count behind one token more, which may be a semicolon, or one that counts
+abbrev pub with_token : Bool → Bool → ℕ → ℕ
+with_token semicolon counts n = if semicolon then 0 else (if counts then n + 1 else n)
 
-abbrev pub no_counts : Counts
-no_counts = record { ifs = 0; operators = 0; behind_lead = false }
+-- how many `if` there are since the last `;` or the start
+abbrev pub ifs : Bytes → List Token → ℕ
+ifs bytes [] = 0
+ifs bytes (t ∷ earlier) = with_token (is_semicolon (role_of bytes t)) (is_if (role_of bytes t)) (ifs bytes earlier)
 
--- the counts behind tokens
-abbrev pub counts_behind : Bytes → List Token → Counts
-counts_behind bytes ts = fold (λ c t. counted c (role_of bytes t)) no_counts ts
+-- The token is an operator, and doesn't stand directly behind an opening bracket, a comma, = or :.
+abbrev pub is_counted : Bytes → Token → List Token → Bool
+is_counted bytes t earlier = is_operator (role_of bytes t) && not (follows is_lead bytes earlier)
+
+-- how many operators count since the last `;` or the start
+abbrev pub operators : Bytes → List Token → ℕ
+operators bytes [] = 0
+operators bytes (t ∷ earlier) = with_token (is_semicolon (role_of bytes t)) (is_counted bytes t earlier) (operators bytes earlier)
 
 abbrev pub most_ifs : ℕ
 most_ifs = 64
@@ -96,15 +104,12 @@ most_operators = 1024
 
 -- ---- a token that breaks a limit, behind other tokens
 
--- The number is at its limit before the token, and above it behind the token.
-abbrev pub Passes : ℕ → ℕ → ℕ → Type 0
-Passes limit before behind = (before ≡ limit) × (behind ≡ limit + 1)
+-- The token, behind these, takes the number from its limit to one above it.
+abbrev pub Passes : ℕ → (List Token → ℕ) → List Token → Token → Type 0
+Passes limit number before t = (number (reverse before) ≡ limit) × (number (t ∷ reverse before) ≡ limit + 1)
 
 abbrev pub IsTooDeep : Bytes → List Token → Token → Type 0
-IsTooDeep bytes before t = Passes deepest (whole_depth (depth_behind bytes before)) (whole_depth (depth_behind bytes (before ++ t ∷ [])))
+IsTooDeep bytes = Passes deepest (depth bytes)
 
 abbrev pub IsTooMany : Bytes → List Token → Token → Type 0
-IsTooMany bytes before t =
-    let c = counts_behind bytes before in
-    let d = counts_behind bytes (before ++ t ∷ []) in
-    Passes most_ifs c.ifs d.ifs ⊎ Passes most_operators c.operators d.operators
+IsTooMany bytes before t = Passes most_ifs (ifs bytes) before t ⊎ Passes most_operators (operators bytes) before t

@@ -1,5 +1,5 @@
 -- The part that a token plays in the nesting and in the counts of operators.
-use Rattle.std.specs.Prelude.{if◌then◌else◌, List, [], ◌∷◌, codes}
+use Rattle.std.specs.Prelude.{Bool, true, false, if◌then◌else◌, List, [], ◌∷◌, codes}
 use Rattle.std.specs.Str.{bytes_eq}
 use Rattle.cdl_source.specs.declared.place.Sort.{Sort}
 use Rattle.cdl_source.specs.declared.place.Sort.TheVariants as sort
@@ -13,7 +13,7 @@ abbrev pub roles : List (Bytes × Role)
 roles =
     (codes "(", r.Opening) ∷ (codes "[", r.Opening) ∷ (codes "{", r.Opening)
     ∷ (codes ")", r.Closing) ∷ (codes "]", r.Closing) ∷ (codes "}", r.Closing)
-    ∷ (codes "block", r.Class) ∷ (codes "package", r.Class) ∷ (codes "end", r.End)
+    ∷ (codes "block", r.Class) ∷ (codes "package", r.Class) ∷ (codes "for", r.For) ∷ (codes "end", r.End)
     ∷ (codes ",", r.Lead) ∷ (codes "=", r.Lead) ∷ (codes ":", r.Lead) ∷ (codes ";", r.Semicolon)
     ∷ (codes "if", r.If) ∷ (codes "elseif", r.Operator) ∷ (codes "and", r.Operator) ∷ (codes "or", r.Operator)
     ∷ (codes "+", r.Operator) ∷ (codes "-", r.Operator) ∷ (codes "*", r.Operator) ∷ (codes "/", r.Operator) ∷ []
@@ -37,3 +37,26 @@ role_by sort.Symbol text = word_role text
 
 abbrev pub role_of : Bytes → Token → Role
 role_of bytes t = role_by t.sort (text_of bytes t)
+
+-- the roles that the limits ask for
+abbrev pub is_end : Role → Bool
+is_end r.End = true
+is_end _ = false
+
+abbrev pub is_semicolon : Role → Bool
+is_semicolon r.Semicolon = true
+is_semicolon _ = false
+
+abbrev pub is_if : Role → Bool
+is_if r.If = true
+is_if _ = false
+
+abbrev pub is_operator : Role → Bool
+is_operator r.Operator = true
+is_operator _ = false
+
+-- behind such a token no operator counts
+abbrev pub is_lead : Role → Bool
+is_lead r.Opening = true
+is_lead r.Lead = true
+is_lead _ = false

@@ -1,10 +1,10 @@
 -- How tokens are spelled.
-use Rattle.std.specs.Prelude.{◌≡◌, ℕ, ◌<◌, Bool, true, false, ◌&&◌, ◌||◌, ◌==◌, nat_le, List, [], ◌∷◌, ◌++◌, length, codes}
+use Rattle.std.specs.Prelude.{◌≡◌, ℕ, ◌<◌, Bool, true, false, ◌&&◌, ◌||◌, ◌==◌, List, [], ◌∷◌, ◌++◌, length, codes}
 use Rattle.std.specs.List.{list_all, list_any}
+use Rattle.cdl_source.specs.Identifiers.{is_initial, is_word_byte, is_keyword}
 use Rattle.cdl_source.specs.declared.place.Sort.{Sort}
 use Rattle.cdl_source.specs.declared.place.Sort.TheVariants.{Identifier, Integer, Real, Str, Keyword, Symbol}
 use Rattle.cdl_decimal.specs.Spells.{AllDigits, IsFraction, IsExponent}
-use Rattle.cdl_lex.specs.Keywords.{is_keyword}
 
 abbrev pub Bytes : Type 0
 Bytes = List ℕ
@@ -12,17 +12,6 @@ Bytes = List ℕ
 -- space, tab, carriage return, line feed, form feed
 abbrev pub is_blank : ℕ → Bool
 is_blank c = c == 32 || c == 9 || c == 13 || c == 10 || c == 12
-
-abbrev pub is_digit : ℕ → Bool
-is_digit c = nat_le 48 c && nat_le c 57
-
--- what an identifier begins with: A to Z, a to z, _
-abbrev pub is_initial : ℕ → Bool
-is_initial c = (nat_le 65 c && nat_le c 90) || (nat_le 97 c && nat_le c 122) || c == 95
-
--- what an identifier goes on with
-abbrev pub is_word : ℕ → Bool
-is_word c = is_initial c || is_digit c
 
 -- the symbols of one byte
 unfoldable pub symbols : Bytes
@@ -47,7 +36,7 @@ pub data IsInside : Bytes → Type 0 where
 
 -- the texts of tokens, and what they are
 pub data Spelling : Bytes → Sort → Type 0 where
-  identifier : (c : ℕ) (cs : Bytes) → is_initial c ≡ true → list_all is_word cs ≡ true → is_keyword (c ∷ cs) ≡ false → Spelling (c ∷ cs) Identifier
+  identifier : (c : ℕ) (cs : Bytes) → is_initial c ≡ true → list_all is_word_byte cs ≡ true → is_keyword (c ∷ cs) ≡ false → Spelling (c ∷ cs) Identifier
   keyword : (s : Bytes) → is_keyword s ≡ true → Spelling s Keyword
   integer : (ds : Bytes) → 0 < length ds → AllDigits ds → Spelling ds Integer
   real : (ds f x : Bytes) {fs xs : Bytes} {m : Bool} → 0 < length ds → AllDigits ds → IsFraction f fs → IsExponent x m xs → 0 < length (f ++ x)

@@ -1,6 +1,7 @@
 -- What the steps of the lexer answer.
 use Rattle.std.specs.Prelude.{◌≡◌, ℕ, ◌+◌, Bool, true, false, ◌&&◌, ◌||◌, ◌==◌, if◌then◌else◌, List, [], ◌∷◌, ◌++◌, length, drop, Option, Some, None, ℤ, Result, Ok, Err}
 use Rattle.std.specs.List.{prefix_len}
+use Rattle.cdl_source.specs.Identifiers.{is_initial, is_digit, is_keyword}
 use Rattle.cdl_source.specs.declared.place.Sort.{Sort}
 use Rattle.cdl_source.specs.declared.place.Sort.TheVariants.{Identifier, Integer, Real, Keyword}
 use Rattle.cdl_source.specs.declared.place.Token.{Token}
@@ -9,8 +10,7 @@ use Rattle.cdl_decimal.specs.declared.numeral.DecimalError.TheVariants.{NotDecim
 use Rattle.cdl_lex.specs.declared.piece.Piece.{Piece}
 use Rattle.cdl_lex.specs.declared.split.Splitting.{Splitting}
 use Rattle.cdl_lex.specs.declared.split.Splitting.TheVariants.{Whole, Stuck}
-use Rattle.cdl_lex.specs.Keywords.{is_keyword}
-use Rattle.cdl_lex.specs.Spellings.{Bytes, is_blank, is_initial, is_digit, is_escape}
+use Rattle.cdl_lex.specs.Spellings.{Bytes, is_blank, is_escape}
 use Rattle.cdl_lex.specs.Splits.{IsGap, IsToken, Splits, token}
 use Rattle.cdl_lex.specs.Rules.{IsNoToken}
 

@@ -1,7 +1,8 @@
 // The limits of `if` and of operators.
-ghost use Rattle.std.specs.Prelude.{◌≡◌, ◌≤◌, ◌+◌, true, false, ◌⊎◌};
+ghost use Rattle.std.specs.Prelude.{◌≡◌, ◌≤◌, ◌&&◌, not};
 ghost use Rattle.cdl_lex.specs.Found.{IsFirst};
 ghost use Rattle.cdl_lex.specs.Limits as spec;
+ghost use Rattle.cdl_lex.specs.Roles.{is_semicolon, is_if, is_operator, is_lead};
 ghost use Rattle.cdl_lex.specs.Rules.{HasTooMany};
 ghost use Rattle.cdl_lex.specs.TokenList.{LieWithin, Rise};
 
@@ -18,7 +19,7 @@ const MOST_OPERATORS: u32 = 1024;
 pub(crate) struct Counts {
     ifs: u32,
     operators: u32,
-    behind_lead: bool,
+    follows_lead: bool,
 }
 
 impl Counts {
@@ -26,31 +27,31 @@ impl Counts {
     fn behind(self, role: Role) -> Counts
         requires ifs { self.ifs ≤ 64 }
         requires operators { self.operators ≤ 1024 }
-        ensures counts { result ≡ spec.counted self role }
-        ensures ifs { result.ifs ≤ self.ifs + 1 }
-        ensures operators { result.operators ≤ self.operators + 1 }
+        ensures ifs { result.ifs ≡ spec.with_token (is_semicolon role) (is_if role) self.ifs }
+        ensures operators { result.operators ≡ spec.with_token (is_semicolon role) (is_operator role && not self.follows_lead) self.operators }
+        ensures follows_lead { result.follows_lead ≡ is_lead role }
     {
         match role {
             Role::Opening | Role::Lead => Counts {
-                behind_lead: true,
+                follows_lead: true,
                 ..self
             },
             Role::Semicolon => Counts {
                 ifs: 0,
                 operators: 0,
-                behind_lead: false,
+                follows_lead: false,
             },
             Role::If => Counts {
                 ifs: self.ifs + 1,
-                behind_lead: false,
+                follows_lead: false,
                 ..self
             },
-            Role::Operator if !self.behind_lead => Counts {
+            Role::Operator if !self.follows_lead => Counts {
                 operators: self.operators + 1,
                 ..self
             },
             _ => Counts {
-                behind_lead: false,
+                follows_lead: false,
                 ..self
             },
         }
@@ -66,7 +67,7 @@ pub(crate) fn too_many(bytes: &[u8], tokens: &[Token]) -> Option<u32>
     let mut counts = Counts {
         ifs: 0,
         operators: 0,
-        behind_lead: false,
+        follows_lead: false,
     };
     for token in tokens {
         counts = counts.behind(role_of(bytes, *token));

@@ -1,57 +1,65 @@
 // The limit of nesting.
-ghost use Rattle.std.specs.Prelude.{◌≡◌, ◌≤◌, ◌+◌};
+ghost use Rattle.std.specs.Prelude.{◌≡◌, ◌≤◌, ◌+◌, ◌==◌, if◌then◌else◌};
 ghost use Rattle.cdl_lex.specs.Found.{IsFirst};
 ghost use Rattle.cdl_lex.specs.Limits as spec;
+ghost use Rattle.cdl_lex.specs.Roles.{is_end};
 ghost use Rattle.cdl_lex.specs.Rules.{HasTooDeep};
 ghost use Rattle.cdl_lex.specs.TokenList.{LieWithin, Rise};
 
 use crate::role::{Role, role_of};
 use cdl_source::Token;
 
-// How deep brackets, blocks and packages may stand in one another.
+// How deep brackets, blocks, packages and loops may stand in one another.
 const DEEPEST: u32 = 64;
 
-/// The open brackets, and the open blocks and packages.
+/// The open brackets, the open blocks, packages and loops, and whether the last token is `end`.
 #[derive(Clone, Copy)]
 pub(crate) struct Depth {
     brackets: u32,
     classes: u32,
+    follows_end: bool,
 }
 
 impl Depth {
-    // Behind one token more.
-    fn behind(self, role: Role) -> Depth
-        requires { spec.whole_depth self ≤ 64 }
-        ensures depth { result ≡ spec.nested self role }
-        ensures step { spec.whole_depth result ≤ spec.whole_depth self + 1 }
+    fn brackets_behind(self, role: Role) -> u32
+        requires { self.brackets ≤ 64 }
+        ensures { result ≡ spec.with_bracket role self.brackets }
     {
-        let Depth { brackets, classes } = self;
         match role {
-            Role::Opening => Depth {
-                brackets: brackets + 1,
-                classes,
-            },
-            Role::Closing => Depth {
-                brackets: brackets.saturating_sub(1),
-                classes,
-            },
-            Role::Class if brackets == 0 => Depth {
-                brackets,
-                classes: classes + 1,
-            },
-            Role::End if brackets == 0 => Depth {
-                brackets,
-                classes: classes.saturating_sub(1),
-            },
-            _ => self,
+            Role::Opening => self.brackets + 1,
+            Role::Closing => self.brackets.saturating_sub(1),
+            _ => self.brackets,
         }
     }
 
-    fn whole(self) -> u32
-        requires { spec.whole_depth self ≤ 65 }
-        ensures { result ≡ spec.whole_depth self }
+    fn classes_behind(self, role: Role) -> u32
+        requires { self.classes ≤ 64 }
+        ensures { result ≡ spec.with_class role self.follows_end self.classes }
     {
-        self.brackets + self.classes
+        match role {
+            Role::Class => self.classes + 1,
+            Role::For if !self.follows_end => self.classes + 1,
+            Role::End => self.classes.saturating_sub(1),
+            _ => self.classes,
+        }
+    }
+
+    // Behind one token more.
+    fn behind(self, role: Role) -> Depth
+        requires { self.brackets + self.classes ≤ 64 }
+        ensures brackets { result.brackets ≡ spec.with_bracket role self.brackets }
+        ensures classes { result.classes ≡ (if self.brackets == 0 then spec.with_class role self.follows_end self.classes else self.classes) }
+        ensures follows_end { result.follows_end ≡ is_end role }
+    {
+        Depth {
+            brackets: self.brackets_behind(role),
+            classes: if self.brackets == 0 {
+                self.classes_behind(role)
+            } else {
+                self.classes
+            },
+            follows_end: matches!(role, Role::End),
+        }
     }
 }
 
@@ -64,10 +72,11 @@ pub(crate) fn too_deep(bytes: &[u8], tokens: &[Token]) -> Option<u32>
     let mut depth = Depth {
         brackets: 0,
         classes: 0,
+        follows_end: false,
     };
     for token in tokens {
         depth = depth.behind(role_of(bytes, *token));
-        if depth.whole() > DEEPEST {
+        if depth.brackets + depth.classes > DEEPEST {
             return Some(token.span.start);
         }
     }

@@ -1,12 +1,11 @@
 // The tokens of a file, or the first rule that it breaks.
-ghost use Rattle.std.specs.Prelude.{◌≡◌, ◌<◌, ◌^◌, length, IfOk, IfErr, List as Listed};
+ghost use Rattle.std.specs.Prelude.{◌≡◌, ◌<◌, ◌^◌, length, IfOk, IfErr, IfNone, List as Listed};
+ghost use Rattle.std.specs.Str.{IsUtf8};
 ghost use Rattle.cdl_source.specs.declared.place.Token.{Token as Item};
 ghost use Rattle.cdl_lex.specs.Found.{IsFirst};
 ghost use Rattle.cdl_lex.specs.declared.lexer.LexFault.TheVariants.{Rule};
 ghost use Rattle.cdl_lex.specs.Rules.{IsTooLong, IsNotUtf8, BreaksNone};
 ghost use Rattle.cdl_lex.specs.Splits.{Splits};
-ghost use Rattle.cdl_lex.specs.TokenList.{LieWithin, Rise};
-ghost use Rattle.cdl_lex.specs.Texts.{AreSpelled, FitLimits};
 ghost use Rattle.cdl_lex.specs.Verdict.{IsRefusal};
 
 use crate::counts::too_many;
@@ -53,7 +52,8 @@ fn too_long(bytes: &[u8]) -> Option<u32>
 // Where the longest front of the text that is UTF-8 ends.
 fn not_utf8(bytes: &[u8]) -> Option<u32>
     requires { length bytes.now < 2 ^ 32 }
-    ensures { IsFirst (IsNotUtf8 bytes.now) result }
+    ensures first { IsFirst (IsNotUtf8 bytes.now) result }
+    ensures utf8 { IfNone result (IsUtf8 bytes.now) }
 {
     match std::str::from_utf8(bytes) {
         Ok(_) => None,
@@ -91,12 +91,6 @@ pub fn lex(alloc: Global, file: u32, bytes: &[u8]) -> Result<Tokens, LexFault>
     ensures bytes { IfOk result (λ t. t.bytes ≡ bytes.now) }
     ensures found { IfOk result (λ t. Splits bytes.now t.items) }
     ensures unbroken { IfOk result (λ t. BreaksNone bytes.now) }
-
-    // The tokens lie in the text in order, their texts are spellings, and literals and identifiers are within their limits.
-    ensures within { IfOk result (λ t. LieWithin t.bytes t.items) }
-    ensures rise { IfOk result (λ t. Rise t.items) }
-    ensures spelled { IfOk result (λ t. AreSpelled t.bytes t.items) }
-    ensures fits { IfOk result (λ t. FitLimits t.bytes t.items) }
 
     // It splits into no others.
     ensures only { IfOk result (λ t. (ts : Listed Item) → Splits bytes.now ts → ts ≡ t.items) }

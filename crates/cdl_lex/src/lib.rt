@@ -5,10 +5,10 @@
 //! identifiers, nesting and the operators of an expression have limits.
 #![tactic(auto)]
 
-mod class;
+mod byte_set;
 mod counts;
 mod depth;
-mod keywords;
+mod law;
 mod lexer;
 mod literals;
 mod piece;
@@ -17,6 +17,6 @@ mod sizes;
 mod split;
 mod tokens;
 
-pub use keywords::is_keyword;
+pub use law::one_splitting;
 pub use lexer::{LexFault, lex};
 pub use tokens::Tokens;

@@ -1,15 +1,14 @@
 // The blank, comment or token with which bytes begin.
 ghost use Rattle.std.specs.Prelude.{◌≡◌, ◌<◌, ◌≤◌, true, false, length, slice_index, IfSome, IfNone, Some, None};
+ghost use Rattle.cdl_source.specs.Identifiers.{is_initial, is_digit};
 ghost use Rattle.cdl_lex.specs.Spellings as spec;
-ghost use Rattle.cdl_lex.specs.Spellings.{is_initial, is_digit};
 ghost use Rattle.cdl_lex.specs.Splits.{NothingBegins};
 ghost use Rattle.cdl_lex.specs.Steps as steps;
 ghost use Rattle.cdl_lex.specs.Steps.{IsPiece};
 
-use crate::class::Class;
-use crate::keywords::is_keyword;
+use crate::byte_set::ByteSet;
 use crate::sizes::{block_size, inside_size, tail_size};
-use cdl_source::Sort;
+use cdl_source::{Sort, is_keyword};
 
 /// A gap of so many bytes, or a token.
 #[derive(Clone, Copy)]
@@ -49,7 +48,7 @@ fn word(rest: &[u8]) -> Piece
     requires initial { is_initial (slice_index rest.now 0) ≡ true }
     ensures { IsPiece rest.now result }
 {
-    let size = 1 + Class::Word.prefix(&rest[1..]);
+    let size = 1 + ByteSet::Word.prefix(&rest[1..]);
     token(word_sort(&rest[..size]), size)
 }
 
@@ -59,7 +58,7 @@ fn number(rest: &[u8]) -> Piece
     requires digit { is_digit (slice_index rest.now 0) ≡ true }
     ensures { IsPiece rest.now result }
 {
-    let whole = Class::Digit.prefix(rest);
+    let whole = ByteSet::Digit.prefix(rest);
     let tail = tail_size(&rest[whole..]);
     let sort = if tail == 0 { Sort::Integer } else { Sort::Real };
     token(sort, whole + tail)
@@ -86,7 +85,7 @@ fn slash(rest: &[u8]) -> Option<Piece>
     ensures none { IfNone result (NothingBegins rest.now) }
 {
     if rest.len() > 1 && rest[1] == b'/' {
-        Some(gap(2 + Class::Inner.prefix(&rest[2..])))
+        Some(gap(2 + ByteSet::Inner.prefix(&rest[2..])))
     } else if rest.len() > 1 && rest[1] == b'*' {
         match block_size(&rest[2..]) {
             Some(size) => Some(gap(2 + size)),
@@ -141,11 +140,11 @@ pub(crate) fn piece_at(rest: &[u8]) -> Option<Piece>
     ensures within { IfSome result (λ p. p.size ≤ length rest.now) }
 {
     let first = rest[0];
-    if Class::Blank.has(first) {
+    if ByteSet::Blank.has(first) {
         Some(gap(1))
-    } else if Class::Initial.has(first) {
+    } else if ByteSet::Initial.has(first) {
         Some(word(rest))
-    } else if Class::Digit.has(first) {
+    } else if ByteSet::Digit.has(first) {
         Some(number(rest))
     } else if first == b'"' {
         string(rest)

@@ -15,7 +15,7 @@ pub(crate) enum Role {
     Closing,
     /// `block` and `package`
     Class,
-    /// `end`
+    For,
     End,
     /// `, = :`, behind which, as behind an opening bracket, no operator counts.
     Lead,
@@ -26,7 +26,7 @@ pub(crate) enum Role {
     Other,
 }
 
-const ROLES: [(&[u8], Role); 21] = [
+const ROLES: [(&[u8], Role); 22] = [
     (b"(", Role::Opening),
     (b"[", Role::Opening),
     (b"{", Role::Opening),
@@ -35,6 +35,7 @@ const ROLES: [(&[u8], Role); 21] = [
     (b"}", Role::Closing),
     (b"block", Role::Class),
     (b"package", Role::Class),
+    (b"for", Role::For),
     (b"end", Role::End),
     (b",", Role::Lead),
     (b"=", Role::Lead),

@@ -3,7 +3,7 @@ ghost use Rattle.std.specs.Prelude.{◌≡◌, ◌≤◌, false, length, IfSome}
 ghost use Rattle.cdl_lex.specs.Spellings as spec;
 ghost use Rattle.cdl_lex.specs.Steps.{fraction_len, sign_len, exponent_len, tail_len, inside_len, block_len};
 
-use crate::class::Class;
+use crate::byte_set::ByteSet;
 
 // A point and digits, where a point begins the bytes.
 #[tactic(auto, unfolding(crate::specs::Steps::fraction_len))]
@@ -12,7 +12,7 @@ fn fraction_size(bytes: &[u8]) -> usize
     ensures within { result ≤ length bytes.now }
 {
     match bytes {
-        [b'.', digits @ ..] => 1 + Class::Digit.prefix(digits),
+        [b'.', digits @ ..] => 1 + ByteSet::Digit.prefix(digits),
         _ => 0,
     }
 }
@@ -39,7 +39,7 @@ fn exponent_size(bytes: &[u8]) -> usize
         return 0;
     };
     let sign = sign_size(behind);
-    let digits = Class::Digit.prefix(&behind[sign..]);
+    let digits = ByteSet::Digit.prefix(&behind[sign..]);
     if digits == 0 { 0 } else { 1 + sign + digits }
 }
 

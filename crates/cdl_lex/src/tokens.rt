@@ -1,7 +1,8 @@
 // A text with its tokens.
-ghost use Rattle.std.specs.Prelude.{◌≡◌, ◌≤◌, ◌<◌, Some, All, length, slice_get};
-ghost use Rattle.cdl_lex.specs.TokenList.{LiesWithin, LieWithin, Rise, longest_text};
-ghost use Rattle.cdl_lex.specs.Texts.{IsSpelled, AreSpelled, FitsLimits, FitLimits};
+ghost use Rattle.std.specs.Prelude.{◌≡◌, ◌≤◌, ◌<◌, Some, length, slice_get};
+ghost use Rattle.std.specs.Str.{IsUtf8};
+ghost use Rattle.cdl_lex.specs.TokenList.{LiesWithin, longest_text};
+ghost use Rattle.cdl_lex.specs.Texts.{IsSpelled, FitsLimits, AreTokens};
 
 use cdl_source::{List, Text, Token};
 use std::marker::Model;
@@ -16,32 +17,28 @@ pub struct Tokens {
 }
 
 impl Model for Tokens {
-    ghost use Rattle.std.specs.Prelude.{◌≤◌, length};
-    ghost use Rattle.cdl_lex.specs.TokenList.{TokenList, LieWithin, longest_text};
-    ghost use Rattle.cdl_lex.specs.Texts.{AreSpelled, FitLimits};
+    ghost use Rattle.cdl_lex.specs.TokenList.{TokenList};
+    ghost use Rattle.cdl_lex.specs.Texts.{AreTokens};
 
     ghost Value = { TokenList };
 
     ghost view = { λ t. record { file = t.file; bytes = t.bytes; items = t.items } };
 
-    ghost invariant = { λ t. (length t.bytes ≤ longest_text) × LieWithin t.bytes t.items × AreSpelled t.bytes t.items × FitLimits t.bytes t.items };
+    ghost invariant = { λ t. AreTokens t.bytes t.items };
 }
 
 impl Tokens {
-    // The text is short enough, and the tokens lie in it, are spelled as their sorts say, and keep their limits.
     pub(crate) fn new(file: u32, bytes: Text, items: List<Token>) -> Tokens
-        requires limit { length bytes ≤ longest_text }
-        requires within { LieWithin bytes items }
-        requires spelled { AreSpelled bytes items }
-        requires fits { FitLimits bytes items }
+        requires { AreTokens bytes items }
         ensures { result ≡ record { file = file; bytes = bytes; items = items } }
     {
         Tokens { file, bytes, items }
     }
 
-    /// How many tokens there are.
+    /// How many tokens there are: at most as many as bytes. The text breaks none of the rules 1 to 6, and splits into them.
     pub fn len(&self) -> usize
-        ensures { result ≡ length self.now.items }
+        ensures len { result ≡ length self.now.items }
+        ensures tokens { AreTokens self.now.bytes self.now.items }
     {
         self.items.items().len()
     }
@@ -53,10 +50,11 @@ impl Tokens {
         self.file
     }
 
-    /// All bytes of the text, lent: at most 524,288.
+    /// All bytes of the text, lent: at most 524,288, and UTF-8.
     pub fn bytes(&self) -> &[u8]
         ensures bytes { result.now ≡ self.now.bytes }
         ensures limit { length result.now ≤ longest_text }
+        ensures utf8 { IsUtf8 result.now }
     {
         self.bytes.bytes()
     }

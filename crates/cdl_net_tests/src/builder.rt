@@ -3,8 +3,9 @@ ghost use Rattle.cdl_kinds.specs.Conditions.{Fits};
 
 use crate::delays::{pre, unit_delay};
 use cdl_connect::{Body, Net, NetElement, NetInstance, RawWire};
-use cdl_kinds::{Array, Kind, ValueType, check};
+use cdl_kinds::{Kind, check};
 use cdl_source::{List, OutOfMemory, Text};
+use cdl_values::{Array, ValueType};
 use std::alloc::Global;
 
 // A number: 0 to 9, and then a for 10.

@@ -3,17 +3,18 @@ ghost use Rattle.std.specs.Prelude.{◌≡◌, ◌⊎◌, ◌∷◌, [], IfOk, p
 ghost use Rattle.cdl_kinds.specs.Conditions.{Fits};
 
 use cdl_decimal::Real;
-use cdl_kinds::{Array, Kind, Value, ValueType};
+use cdl_kinds::Kind;
 use cdl_source::{List, OutOfMemory};
+use cdl_values::{Array, Value, ValueType};
 use std::alloc::Global;
 
 fn scalar(alloc: Global, kind: ValueType, value: Value) -> Result<Array, OutOfMemory>
-    ensures { IfOk result (λ a. a ≡ record { kind = kind; shape = []; items = value ∷ [] }) }
+    ensures { IfOk result (λ a. a ≡ record { value_type = kind; shape = []; items = value ∷ [] }) }
 {
     let mut items = List::new(alloc);
     items.push(value)?;
     Ok(Array {
-        kind,
+        value_type: kind,
         shape: List::new(alloc),
         items,
     })

@@ -7,14 +7,14 @@ use Rattle.cdl_tree.specs.declared.class.Item.{Item}
 use Rattle.cdl_tree.specs.Words.{Terminal, Word, same_kind}
 use Rattle.cdl_tree.specs.Trees.{the_ident}
 use Rattle.cdl_tree.specs.Grammar.{ClauseOf, Tail, is_section, BlockParts, no_block_part, block_section, block_note, block_clause, LiteralOf, literal as a_literal, Literals, one_literal, more_literals}
-use Rattle.cdl_parse.specs.Reading.{Parser, Outcome, and_then, pure, kind}
+use Rattle.cdl_reading.specs.Reading.{Parser, Outcome, and_then, pure, kind}
 use Rattle.cdl_parse.specs.Declarations.{note_clause as read_note, clause as read_clause}
 use Rattle.cdl_parse.specs.Classes as spec
-use Rattle.cdl_parse.proofs.Steps.{Then, both, Is, is}
-use Rattle.cdl_parse.proofs.Laws.{member, within_self, Law, shaped, like, begun_law, pure_law, then_law, Or, this, that, either_law, flagged, Token, a_token, token_by, Reader, token_law, token_of}
-use Rattle.cdl_parse.proofs.Repeats.{Repeats, stop, snoc, fold, Loop, repeat_law, Row, row_one, row_more, row_in, list_law, Behind}
-use Rattle.cdl_parse.proofs.Sets.{after_tail, after_condition}
-use Rattle.cdl_parse.proofs.ExprLaws.{IdentOf, an_ident, ident_law}
+use Rattle.cdl_reading.proofs.Steps.{Then, both, Is, is}
+use Rattle.cdl_reading.proofs.Laws.{member, within_self, Law, shaped, like, begun_law, pure_law, then_law, Or, this, that, either_law, flagged, Token, a_token, token_by, Reader, token_law, token_of}
+use Rattle.cdl_reading.proofs.Repeats.{Repeats, stop, snoc, fold, Loop, repeat_law, Row, row_one, row_more, row_in, list_law, Behind}
+use Rattle.cdl_expressions.proofs.Sets.{after_tail, after_condition}
+use Rattle.cdl_expressions.proofs.ExprLaws.{IdentOf, an_ident, ident_law}
 use Rattle.cdl_parse.proofs.Notes.{wanted, tail_law, NoteClause, note_clause, note_clause_law, note_some}
 use Rattle.cdl_parse.proofs.Decls.{clause_law, clause_some}
 

@@ -12,16 +12,17 @@ use Rattle.cdl_tree.specs.Trees.{the_ident, the_block, the_package, the_enumerat
 use Rattle.cdl_tree.specs.Grammar.{Tail, no_text, ConstantOf, is_section, BlockParts, no_block_part, EquationPart, no_equation, Literals, ClassOf, a_block, a_package, an_enumeration, PackageParts as PackageWord, no_package_part, package_section, package_note, package_constant, package_class}
 use Rattle.cdl_parse.specs.declared.closed.ClosedClass.{ClosedClass}
 use Rattle.cdl_parse.specs.declared.closed.PackageParts.{PackageParts}
-use Rattle.cdl_parse.specs.Reading.{Parser, and_then, pure, kind}
+use Rattle.cdl_reading.specs.Reading.{Parser, and_then, pure, kind}
 use Rattle.cdl_parse.specs.Declarations.{note_clause as read_note}
 use Rattle.cdl_parse.specs.Classes as spec
 use Rattle.cdl_parse.specs.Classes.{wrong_end, or_then, closed as closed_class, with_class, with_constants}
-use Rattle.cdl_parse.proofs.Steps.{Then, both, Is, is, Made, is_made}
-use Rattle.cdl_parse.proofs.Laws.{member, within_self, Law, wider, shaped, like, begun_law, pure_law, made_law, then_law, Or, this, that, either_law, only_is, is_only, One, flagged, a_token, token_of, word_then, word_less, Closed, closed, closing_law, guarded_law, same_read, refused_law}
-use Rattle.cdl_parse.proofs.Repeats.{Repeats, stop, snoc, fold, Loop, repeat_law, Behind}
-use Rattle.cdl_parse.proofs.Sets.{after_tail, after_condition}
-use Rattle.cdl_parse.proofs.ExprLaws.{IdentOf, an_ident, ident_law}
-use Rattle.cdl_parse.proofs.Notes.{AnyText, text_law, tail_law, NoteClause, note_clause, note_some}
+use Rattle.cdl_reading.proofs.Steps.{Then, both, Is, is, Made, is_made}
+use Rattle.cdl_reading.proofs.Laws.{member, within_self, Law, wider, shaped, like, begun_law, pure_law, made_law, then_law, Or, this, that, either_law, only_is, is_only, One, flagged, a_token, token_of, word_then, word_less, Closed, closed, closing_law, guarded_law, same_read, refused_law}
+use Rattle.cdl_reading.proofs.Repeats.{Repeats, stop, snoc, fold, Loop, repeat_law, Behind}
+use Rattle.cdl_expressions.proofs.Sets.{after_tail, after_condition}
+use Rattle.cdl_expressions.proofs.ExprLaws.{IdentOf, an_ident, ident_law}
+use Rattle.cdl_expressions.proofs.Texts.{AnyText, text_law}
+use Rattle.cdl_parse.proofs.Notes.{tail_law, NoteClause, note_clause, note_some}
 use Rattle.cdl_parse.proofs.Decls.{constant_law, constant_some}
 use Rattle.cdl_parse.proofs.Connects.{equation_law}
 use Rattle.cdl_parse.proofs.Ends.{first_wrong, or_none, wrong_in_turn}

@@ -10,15 +10,15 @@ use Rattle.cdl_tree.specs.declared.class.Connect.{Connect}
 use Rattle.cdl_tree.specs.Words.{Terminal, Word, same_kind}
 use Rattle.cdl_tree.specs.Trees.{the_ident, the_part, the_ref, the_connect}
 use Rattle.cdl_tree.specs.Grammar.{ExprOf, Tail, SubOf, all_places, one_place, places, SubList, one_sub, more_subs, Subs, no_sub, subs as some_subs, PartOf, part as a_part, RefOf, one_part, more_parts, ConnectOf, connect as a_connect, Statements, no_statement, then_connect, then_note, EquationPart, no_equation, equation}
-use Rattle.cdl_parse.specs.Reading.{Parser, and_then, pure, kind, sees, after}
+use Rattle.cdl_reading.specs.Reading.{Parser, and_then, pure, kind, sees, after}
 use Rattle.cdl_parse.specs.Declarations as spec
-use Rattle.cdl_parse.specs.Expressions.{expr as spec_expr}
-use Rattle.cdl_parse.proofs.Steps.{Then, both, Is, is, Made, is_made}
-use Rattle.cdl_parse.proofs.Laws.{within_self, Law, shaped, begun_law, pure_law, made_law, then_law, Or, this, that, either_law, Chosen, found, missing, only, only_is, is_only, eaten_law, One, a_token, word_then, Closed, closed, closing_law}
-use Rattle.cdl_parse.proofs.Repeats.{Repeats, stop, snoc, fold, Loop, repeat_law, Row, row_one, row_more, row_in, list_law}
-use Rattle.cdl_parse.proofs.Sets.{exprs, after_expr, after_tail}
-use Rattle.cdl_parse.proofs.ExprLaws.{IdentOf, an_ident, ident_law}
-use Rattle.cdl_parse.proofs.Operators.{expr_law}
+use Rattle.cdl_expressions.specs.Expressions.{expr as spec_expr}
+use Rattle.cdl_reading.proofs.Steps.{Then, both, Is, is, Made, is_made}
+use Rattle.cdl_reading.proofs.Laws.{within_self, Law, shaped, begun_law, pure_law, made_law, then_law, Or, this, that, either_law, Chosen, found, missing, only, only_is, is_only, eaten_law, One, a_token, word_then, Closed, closed, closing_law}
+use Rattle.cdl_reading.proofs.Repeats.{Repeats, stop, snoc, fold, Loop, repeat_law, Row, row_one, row_more, row_in, list_law}
+use Rattle.cdl_expressions.proofs.Sets.{exprs, after_expr, after_tail}
+use Rattle.cdl_expressions.proofs.ExprLaws.{IdentOf, an_ident, ident_law}
+use Rattle.cdl_expressions.proofs.Operators.{expr_law}
 use Rattle.cdl_parse.proofs.Notes.{tail_law, NoteClause, note_clause, note_clause_law, note_some}
 
 abbrev after_sub : List Kind

@@ -11,14 +11,14 @@ use Rattle.cdl_tree.specs.Words.{Terminal, Word, same_kind}
 use Rattle.cdl_tree.specs.Trees.{the_ident, listed, Head, the_item}
 use Rattle.cdl_tree.specs.Grammar.{NameOf, ExprOf, Flag, Tail, OptionalArgs, Value, Condition, DimOf, any_size, a_size, DimList, one_dim, more_dims, Dims, no_dim, dims as some_dims, DeclOf, decl as a_decl, Decls, one_decl, more_decls, PrefixOf, no_prefix, parameter as a_parameter, constant_word, the_head, ClauseOf, clause as a_clause, ConstantOf, constant as a_constant}
 use Rattle.cdl_parse.specs.Declarations as spec
-use Rattle.cdl_parse.proofs.Steps.{Then, both, Is, is, Made, is_made}
-use Rattle.cdl_parse.proofs.Laws.{Law, shaped, begun_law, pure_law, made_law, then_law, Chosen, found, missing, only, only_is, is_only, eaten_law, One, a_token, word_then, Closed, closed, closing_law, flag_law}
-use Rattle.cdl_parse.proofs.Repeats.{Row, row_one, row_more, row_in, Behind, row_behind, row_is, list_law}
-use Rattle.cdl_parse.proofs.Sets.{exprs, after_expr, after_name, after_tail, after_condition, after_value, after_args, after_dims}
-use Rattle.cdl_parse.proofs.ExprLaws.{IdentOf, an_ident, ident_law, name_law, name_some}
-use Rattle.cdl_parse.proofs.Operators.{expr_law}
+use Rattle.cdl_reading.proofs.Steps.{Then, both, Is, is, Made, is_made}
+use Rattle.cdl_reading.proofs.Laws.{Law, shaped, begun_law, pure_law, made_law, then_law, Chosen, found, missing, only, only_is, is_only, eaten_law, One, a_token, word_then, Closed, closed, closing_law, flag_law}
+use Rattle.cdl_reading.proofs.Repeats.{Row, row_one, row_more, row_in, Behind, row_behind, row_is, list_law}
+use Rattle.cdl_expressions.proofs.Sets.{exprs, after_expr, after_name, after_tail, after_condition, after_value, after_args, after_dims}
+use Rattle.cdl_expressions.proofs.ExprLaws.{IdentOf, an_ident, ident_law, name_law, name_some}
+use Rattle.cdl_expressions.proofs.Operators.{expr_law}
 use Rattle.cdl_parse.proofs.Notes.{tail_law}
-use Rattle.cdl_parse.proofs.Args.{value_law, condition_law, optional_args_law, args_law}
+use Rattle.cdl_expressions.proofs.Args.{value_law, condition_law, optional_args_law, args_law}
 
 -- ---- dimensions
 

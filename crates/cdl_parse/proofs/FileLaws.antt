@@ -12,14 +12,14 @@ use Rattle.cdl_tree.specs.Grammar.{NameOf, Within, no_within, within_top, within
 use Rattle.cdl_parse.specs.declared.closed.ClosedClass.{ClosedClass}
 use Rattle.cdl_parse.specs.declared.closed.ClosedFile.{ClosedFile}
 use Rattle.cdl_parse.specs.declared.closed.FileParts.{FileParts}
-use Rattle.cdl_parse.specs.Reading.{Parser, and_then, pure, kind}
+use Rattle.cdl_reading.specs.Reading.{Parser, and_then, pure, kind}
 use Rattle.cdl_parse.specs.Classes as spec
 use Rattle.cdl_parse.specs.Classes.{or_then, closed as closed_class}
-use Rattle.cdl_parse.proofs.Steps.{Then, both, Is, is}
-use Rattle.cdl_parse.proofs.Laws.{within_self, Law, shaped, begun_law, pure_law, then_law, Chosen, found, missing, only, only_is, is_only, eaten_law, One, a_token, word_then, Closed, closed}
-use Rattle.cdl_parse.proofs.Repeats.{Repeats, fold, Lefts, left_one, left_more, Loop, repeat_law}
-use Rattle.cdl_parse.proofs.Sets.{after_name}
-use Rattle.cdl_parse.proofs.ExprLaws.{name_law}
+use Rattle.cdl_reading.proofs.Steps.{Then, both, Is, is}
+use Rattle.cdl_reading.proofs.Laws.{within_self, Law, shaped, begun_law, pure_law, then_law, Chosen, found, missing, only, only_is, is_only, eaten_law, One, a_token, word_then, Closed, closed}
+use Rattle.cdl_reading.proofs.Repeats.{Repeats, fold, Lefts, left_one, left_more, Loop, repeat_law}
+use Rattle.cdl_expressions.proofs.Sets.{after_name}
+use Rattle.cdl_expressions.proofs.ExprLaws.{name_law}
 use Rattle.cdl_parse.proofs.Ends.{first_wrong, wrong_in_turn}
 use Rattle.cdl_parse.proofs.Blocks.{ends_as}
 use Rattle.cdl_parse.proofs.ClassLaws.{ClassIs, classes, class_law, clause_law}

@@ -1,15 +1,4 @@
-pub mod Next
-pub mod Turns
-pub mod Steps
-pub mod Alike
-pub mod Laws
-pub mod Repeats
-pub mod Sets
-pub mod ExprLaws
-pub mod Prims
-pub mod Operators
 pub mod Notes
-pub mod Args
 pub mod Decls
 pub mod Connects
 pub mod Ends

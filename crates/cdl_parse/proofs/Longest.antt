@@ -6,10 +6,10 @@ use Rattle.cdl_tree.specs.declared.class.Closing.{Closing}
 use Rattle.cdl_tree.specs.Words.{Terminal, Word, same_kind}
 use Rattle.cdl_tree.specs.Grammar.{FileOf, Begins, Longest}
 use Rattle.cdl_parse.specs.declared.closed.ClosedFile.{ClosedFile}
-use Rattle.cdl_parse.specs.Reading.{Outcome, and_then, pure, expect_end}
+use Rattle.cdl_reading.specs.Reading.{Outcome, and_then, pure, expect_end}
 use Rattle.cdl_parse.specs.Classes.{file, whole_file}
-use Rattle.cdl_parse.proofs.Steps.{Shape}
-use Rattle.cdl_parse.proofs.Alike.{stops, same_pair}
+use Rattle.cdl_reading.proofs.Steps.{Shape}
+use Rattle.cdl_reading.proofs.Alike.{stops, same_pair}
 use Rattle.cdl_parse.proofs.Ends.{first_wrong}
 use Rattle.cdl_parse.proofs.FileLaws.{FileIs, AnyFile, file_law}
 

@@ -1,102 +1,23 @@
--- The laws of texts and annotations.
+-- The laws of annotations.
 use Rattle.std.proofs.Common.{◌≡◌, ℕ, zero, suc, ◌≤◌, ◌<◌, Bool, true, false, not, List, [], ◌∷◌, ◌++◌, length, Option, Some, None, Ok, Err, refl, sym, ap, ◌∙◌, subst, arith, if◌then◌else◌, append_assoc, append-nil, length-append}
 use Rattle.cdl_tree.specs.declared.kind.Kind.{Kind}
 use Rattle.cdl_tree.specs.declared.kind.Kind.TheVariants as k
 use Rattle.cdl_tree.specs.Words.{Terminal, Word, same_kind}
-use Rattle.cdl_tree.specs.Grammar.{partner, is_plain, Strings, one_string, more_strings, TextOf, no_text, text as some_text, Balanced, nothing, other, enclosed, Note, note as a_note_of, no_note, a_note, Tail, tail as a_tail}
-use Rattle.cdl_parse.specs.Reading.{Parser, Outcome, and_then, pure, kind, next, sees, after, expect}
+use Rattle.cdl_tree.specs.Grammar.{partner, is_plain, Balanced, nothing, other, enclosed, Note, note as a_note_of, no_note, a_note, Tail, tail as a_tail}
+use Rattle.cdl_reading.specs.Reading.{Parser, Outcome, and_then, pure, kind, next, sees, after, expect}
 use Rattle.cdl_parse.specs.Declarations as spec
-use Rattle.cdl_parse.proofs.Steps.{Then, both, Is, is, weakened, pure_reads}
-use Rattle.cdl_parse.proofs.Alike.{none_left}
-use Rattle.cdl_parse.proofs.Laws.{member, each, within_self, each_at, member_left, member_right, is_none, none_is, Law, wider, shaped, like, pure_law, Token, a_token, token_by, Reader, token_law, then_law, Or, this, that, either_law, Chosen, found, missing, chosen_by, chosen_law, flagged, only, only_is, is_only, eaten_law, One, token_of, expect_law, word_then, same_read}
-use Rattle.cdl_parse.proofs.Repeats.{Repeats, stop, go, snoc, Loop, repeat_law}
-use Rattle.cdl_parse.proofs.Sets.{closers, after_tail, after_condition, plains, openers, balanceds}
-
--- ---- texts
+use Rattle.cdl_reading.proofs.Steps.{Then, both, Is, is, weakened, pure_reads}
+use Rattle.cdl_reading.proofs.Alike.{none_left}
+use Rattle.cdl_reading.proofs.Laws.{member, each, within_self, each_at, member_left, member_right, is_none, none_is, Law, wider, shaped, like, pure_law, Token, a_token, token_by, Reader, token_law, then_law, Or, this, that, either_law, Chosen, found, missing, chosen_by, chosen_law, flagged, only, only_is, is_only, eaten_law, One, token_of, expect_law, word_then, same_read}
+use Rattle.cdl_reading.proofs.Repeats.{Repeats, stop, go, snoc, Loop, repeat_law}
+use Rattle.cdl_expressions.proofs.Texts.{AnyText, text_law}
+use Rattle.cdl_expressions.proofs.Sets.{closers, after_tail, after_condition, plains, openers, balanceds}
 
 abbrev pub AnyNote : Word → Word → Unit {0} → Type 0
 AnyNote u w a = Note w
 
-abbrev pub AnyText : Word → Word → Unit {0} → Type 0
-AnyText u w a = TextOf w
-
-data PlusR (a : Unit {0}) (u : Word) : Word → Unit {0} → Type 0 where
-  plus_string : (p s : Terminal) → p.kind ≡ k.Plus → s.kind ≡ k.Str → PlusR a u (p ∷ s ∷ []) tt
-
-abbrev plus_step : Unit {0} → Word → Parser (Unit {0})
-plus_step a s i = and_then (expect k.Plus i) (λ _. expect k.Str)
-
-abbrev plus_loop : ℕ → Unit {0} → Word → Parser (Unit {0})
-plus_loop n a s = spec.strings_from n
-
-abbrev added : Bool → Word → Outcome (Unit {0})
-added b i = if b then Ok (tt, next i) else Err i
-
 abbrev pub wanted : Bool → Word → Word → Outcome (Unit {0})
 wanted b i ts = if b then Ok (tt, ts) else Err i
-
-loop_is : Loop (λ kd. same_kind kd k.Plus) plus_step plus_loop
-unfolding spec.strings_from expect sees after
-loop_is = record { at_end = λ a s i. refl; turn = λ n a s i. turn n i (same_kind (kind i) k.Plus) }
-  where
-    turn : (n : ℕ) (i : Word) (b : Bool) → (if b then (λ i. and_then (expect k.Str i) (λ _. spec.strings_from n)) else pure tt) (if b then next i else i)
-        ≡ (if b then and_then (and_then (added b i) (λ _. expect k.Str)) (λ _. spec.strings_from n) else pure tt i)
-    turn n i true = refl
-    turn n i false = refl
-
-plus_goes : (a : Unit {0}) (u w : Word) (b : Unit {0}) → Then (One k.Plus) (λ _. One k.Str) u w b → PlusR a u w b
-plus_goes a u w b (both (a_token p {a = x} e) (a_token s {a = y} f)) = plus_string p s (only_is k.Plus p.kind x e) (only_is k.Str s.kind y f)
-
-plus_comes : (a : Unit {0}) (u w : Word) (b : Unit {0}) → PlusR a u w b → Then (One k.Plus) (λ _. One k.Str) u w b
-plus_comes a u _ b (plus_string p s e f) = both (a_token p (is_only k.Plus p.kind e)) (a_token s (is_only k.Str s.kind f))
-
-plus_some : (a : Unit {0}) (u w : Word) (b : Unit {0}) → PlusR a u w b → 0 < length w
-plus_some a u _ b (plus_string p s e f) = omega arith
-
--- a string and what is added to it
-data Strung (u : Word) : Word → Type 0 where
-  strung : (s : Terminal) {y : Word} {a : Unit {0}} → s.kind ≡ k.Str → Repeats PlusR tt (u ++ s ∷ []) y a → Strung u (s ∷ y)
-
-strung_more : (u v : Word) (p s : Terminal) → p.kind ≡ k.Plus → s.kind ≡ k.Str → Strung u v → Strung u (v ++ p ∷ s ∷ [])
-strung_more u _ p s e f (strung t h r) = strung t h (snoc r (plus_string p s e f))
-
-strings_strung : (u : Word) {w : Word} → Strings w → Strung u w
-strings_strung u (one_string s h) = strung s {a = tt} h stop
-strings_strung u (more_strings {v} p s x e f) = strung_more u v p s e f (strings_strung u x)
-
--- what was read since the strings began
-strung_strings : (t : Terminal) → t.kind ≡ k.Str → {a b : Unit {0}} {u w : Word} → (v : Word) → Strings v → Repeats PlusR a u w b → Strings (v ++ w)
-strung_strings t h v x (stop) = subst Strings (sym (append-nil v)) x
-strung_strings t h v x (go {v = z} (plus_string p s e f) r) = subst Strings (append_assoc v (p ∷ s ∷ []) z) (strung_strings t h (v ++ p ∷ s ∷ []) (more_strings p s x e f) r)
-
-module _ (d d' : ℕ) (S : List Kind) (no_string : each (λ x. is_none (only k.Str x)) S ≡ true) (no_plus : each (λ kd. not (same_kind kd k.Plus)) S ≡ true) where
-  plus_law : (a : Unit {0}) → Law d d' (PlusR a) (k.Plus ∷ []) (k.Plus ∷ S) (plus_step a) (plus_step a)
-  unfolding same_kind
-  plus_law a = shaped (plus_goes a) (plus_comes a) (word_then k.Plus refl (expect_law {S = k.Plus ∷ S} k.Str refl))
-
-  strings_law : (n m : ℕ) → n ≤ d → m ≤ d' → Law n m (Repeats PlusR tt) (k.Plus ∷ S) S (λ s. spec.strings_from n) (λ s. spec.strings_from m)
-  unfolding same_kind
-  strings_law n m ln lm =
-      repeat_law d d' (λ kd. same_kind kd k.Plus) plus_step plus_step plus_loop plus_loop PlusR (k.Plus ∷ []) S (k.Plus ∷ S) loop_is loop_is plus_some plus_law (within_self (k.Plus ∷ S)) refl no_plus n m ln lm tt
-
-  text_goes : (u w : Word) (a : Unit {0}) → Chosen (only k.Str) (λ _. Repeats PlusR tt) (Is tt) u w a → TextOf w
-  text_goes u w a (found t {a = b} {y = y} e r) =
-      let h = only_is k.Str t.kind b e in some_text (strung_strings t h (t ∷ []) (one_string t h) r)
-  text_goes u w a (missing is) = no_text
-
-  strung_chosen : (u w : Word) (a : Unit {0}) → Strung u w → Chosen (only k.Str) (λ _. Repeats PlusR tt) (Is tt) u w a
-  strung_chosen u _ a (strung s h r) = found s {a = tt} (is_only k.Str s.kind h) r
-
-  text_comes : (u w : Word) (a : Unit {0}) → TextOf w → Chosen (only k.Str) (λ _. Repeats PlusR tt) (Is tt) u w a
-  text_comes u _ a no_text = missing is
-  text_comes u w a (some_text x) = strung_chosen u w a (strings_strung u x)
-
-  pub text_law : Law d d' AnyText (k.Str ∷ S) S (λ s. spec.text_of d) (λ s. spec.text_of d')
-  unfolding spec.text_of same_kind
-  text_law =
-      wider (k.Str ∷ S) S (within_self (k.Str ∷ S)) (within_self S)
-      (shaped text_goes text_comes (eaten_law {n' = d} {m' = d'} k.Str refl (omega arith) (omega arith)
-      (wider (k.Plus ∷ S) S (within_self (k.Plus ∷ S)) (within_self S) (strings_law d d' (omega arith) (omega arith))) (pure_law {S = S} tt) no_string))
 
 -- ---- balanced tokens
 

@@ -13,11 +13,12 @@ use Rattle.cdl_tree.specs.Words.{Word}
 use Rattle.cdl_tree.specs.Terminals.{terminal}
 use Rattle.cdl_tree.specs.Grammar.{IsClosed, Sentence, Longest}
 use Rattle.cdl_parse.specs.declared.closed.ClosedFile.{ClosedFile}
-use Rattle.cdl_parse.specs.Reading.{Outcome, and_then, pure, expect_end}
+use Rattle.cdl_reading.specs.Reading.{Outcome, and_then, pure, expect_end}
 use Rattle.cdl_parse.specs.Classes.{wrong_end, or_then, file, whole_file}
-use Rattle.cdl_parse.specs.Verdict.{word_of, AllClosed, Closes, begin_of, Stuck, Misnamed}
-use Rattle.cdl_parse.proofs.Steps.{Shape}
-use Rattle.cdl_parse.proofs.Alike.{same_pair}
+use Rattle.cdl_reading.specs.Reading.{word_of}
+use Rattle.cdl_parse.specs.Verdict.{AllClosed, Closes, begin_of, Stuck, Misnamed}
+use Rattle.cdl_reading.proofs.Steps.{Shape}
+use Rattle.cdl_reading.proofs.Alike.{same_pair}
 use Rattle.cdl_parse.proofs.Ends.{first_wrong}
 use Rattle.cdl_parse.proofs.FileLaws.{FileIs, AnyFile, file_law}
 use Rattle.cdl_parse.proofs.Longest.{closed_file, is_file, read_file, fault_place}

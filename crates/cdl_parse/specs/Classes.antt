@@ -13,9 +13,10 @@ use Rattle.cdl_parse.specs.declared.closed.ClosedClass.{ClosedClass}
 use Rattle.cdl_parse.specs.declared.closed.ClosedFile.{ClosedFile}
 use Rattle.cdl_parse.specs.declared.closed.FileParts.{FileParts}
 use Rattle.cdl_parse.specs.declared.closed.PackageParts.{PackageParts}
-use Rattle.cdl_parse.specs.Reading.{Parser, ◌>>=◌, ◌>>◌, pure, refuse, kind, next, peek, here, eat, expect, expect_end, ident, made, list}
-use Rattle.cdl_parse.specs.Expressions.{name}
-use Rattle.cdl_parse.specs.Declarations.{text_of, tail, note_clause, clause, constant, equation_part}
+use Rattle.cdl_reading.specs.Reading.{Parser, ◌>>=◌, ◌>>◌, pure, refuse, kind, next, peek, here, eat, expect, expect_end, ident, made, list}
+use Rattle.cdl_expressions.specs.Expressions.{name}
+use Rattle.cdl_expressions.specs.Arguments.{text_of}
+use Rattle.cdl_parse.specs.Declarations.{tail, note_clause, clause, constant, equation_part}
 
 -- "public" or "protected"
 unfoldable pub section : Parser (Unit {0})

@@ -1,4 +1,4 @@
--- The parser of texts, annotations, arguments, declarations and connect statements, as a function.
+-- The parser of annotations, declarations and connect statements, as a function.
 use Rattle.std.specs.Prelude.{ℕ, zero, suc, Bool, true, false, if◌then◌else◌, List, [], ◌∷◌, ◌++◌, Option, Some, None, Ok, Err}
 use Rattle.cdl_tree.specs.declared.kind.Kind.{Kind}
 use Rattle.cdl_tree.specs.declared.kind.Kind.TheVariants as k
@@ -7,29 +7,18 @@ use Rattle.cdl_tree.specs.declared.class.Prefix.{Prefix}
 use Rattle.cdl_tree.specs.declared.class.Prefix.TheVariants as prefix
 use Rattle.cdl_tree.specs.declared.class.Dim.{Dim}
 use Rattle.cdl_tree.specs.declared.class.Dim.TheVariants as dim
-use Rattle.cdl_tree.specs.declared.class.Modifier.{Modifier}
 use Rattle.cdl_tree.specs.declared.class.Item.{Item}
 use Rattle.cdl_tree.specs.declared.class.Part.{Part}
 use Rattle.cdl_tree.specs.declared.class.Sub.{Sub}
 use Rattle.cdl_tree.specs.declared.class.Sub.TheVariants as sub
 use Rattle.cdl_tree.specs.declared.class.Connect.{Connect}
 use Rattle.cdl_tree.specs.Grammar.{partner, is_plain, the_head}
-use Rattle.cdl_tree.specs.Trees.{the_modifier, listed, Head, the_item, the_part, the_ref, the_connect}
-use Rattle.cdl_parse.specs.Reading.{Parser, ◌>>=◌, ◌>>◌, pure, refuse, kind, next, peek, here, skip, ahead, eat, expect, ident, made, list}
-use Rattle.cdl_parse.specs.Expressions.{name, expr}
+use Rattle.cdl_tree.specs.Trees.{listed, Head, the_item, the_part, the_ref, the_connect}
+use Rattle.cdl_reading.specs.Reading.{Parser, ◌>>=◌, ◌>>◌, pure, refuse, kind, next, peek, here, skip, ahead, eat, expect, ident, made, list}
+use Rattle.cdl_expressions.specs.Expressions.{name, expr}
+use Rattle.cdl_expressions.specs.Arguments.{text_of, optional, optional_args, args}
 
--- ---- texts and annotations
-
-unfoldable pub strings_from : ℕ → Parser (Unit {0})
-strings_from zero = pure tt
-strings_from (suc turns) = do
-  more ← eat k.Plus
-  if more then (do expect k.Str; strings_from turns) else pure tt
-
-unfoldable pub text_of : ℕ → Parser (Unit {0})
-text_of most = do
-  some ← eat k.Str
-  if some then strings_from most else pure tt
+-- ---- annotations
 
 -- no closing bracket and not the end
 abbrev pub begins_balanced : Kind → Bool
@@ -83,45 +72,6 @@ tail most = do
   text_of most
   some ← ahead k.Annotation
   if some then note most else pure tt
-
--- ---- arguments
-
--- an expression behind a word or a symbol, where it stands
-unfoldable pub optional : Kind → ℕ → Parser (Option Expr)
-optional kind most = do
-  some ← eat kind
-  if some then (do e ← expr most; pure (Some e)) else pure None
-
-unfoldable pub optional_args : Parser (List Modifier) → Parser (Option (List Modifier))
-optional_args whole = do
-  some ← ahead k.Open
-  if some then (do ms ← whole; pure (Some ms)) else pure None
-
-module _ (depth : ℕ) (whole : Parser (List Modifier)) where
-  unfoldable pub arg : Parser Modifier
-  arg = do
-    start ← here
-    each ← eat k.Each
-    is_final ← eat k.Final
-    name ← ident
-    args ← optional_args whole
-    value ← optional k.Equals depth
-    text_of depth
-    made (the_modifier each is_final name args value) start
-
-  unfoldable pub arg_list : Parser (List Modifier)
-  arg_list = list k.Comma arg depth []
-
-  unfoldable pub arguments : Parser (List Modifier)
-  arguments = do
-    expect k.Open
-    empty ← eat k.Close
-    if empty then pure [] else (do ms ← arg_list; expect k.Close; pure ms)
-
--- arguments that nest no deeper than the number
-unfoldable pub args : ℕ → Parser (List Modifier)
-args zero = refuse
-args (suc depth) = arguments depth (args depth)
 
 -- ---- declarations
 

@@ -1,7 +1,3 @@
-pub mod Reading
-pub mod Expressions
 pub mod Declarations
 pub mod Classes
-pub mod Ahead
-pub mod Gives
 pub mod Verdict

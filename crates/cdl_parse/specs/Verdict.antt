@@ -6,13 +6,10 @@ use Rattle.cdl_lex.specs.TokenList.{TokenList}
 use Rattle.cdl_tree.specs.declared.class.FileTree.{FileTree}
 use Rattle.cdl_tree.specs.declared.class.Closing.{Closing}
 use Rattle.cdl_tree.specs.Words.{Word}
-use Rattle.cdl_tree.specs.Terminals.{terminals}
 use Rattle.cdl_tree.specs.Grammar.{FileOf, IsClosed, Sentence, Longest}
+use Rattle.cdl_reading.specs.Reading.{word_of}
 use Rattle.cdl_parse.specs.declared.ParseFault.{ParseFault}
 use Rattle.cdl_parse.specs.declared.ParseFault.TheVariants.{Rule, OutOfMemory}
-
-abbrev pub word_of : TokenList → Word
-word_of tokens = terminals tokens.bytes tokens.items
 
 -- each identifier behind an `end` is that of its class
 abbrev pub AllClosed : List Closing → Type 0

@@ -1,13 +1,14 @@
 // Classes. The rules of packages take the parser of classes as a parameter.
 ghost use Rattle.std.specs.Prelude.{◌≡◌, List, [], None};
 ghost use Rattle.cdl_tree.specs.Grammar as grammar;
-ghost use Rattle.cdl_parse.specs.Gives.{Gives, Nests};
+ghost use Rattle.cdl_reading.specs.Gives.{Gives, Nests};
 ghost use Rattle.cdl_parse.specs.Classes as spec;
 
 use crate::closed::{ClosedClass, FileParts, PackageParts};
 use crate::connection::equation_part;
-use crate::cursor::{Cursor, Fault};
-use crate::declaration::{clause, constant, note_clause, tail, text};
+use cdl_reading::{Cursor, Fault};
+use crate::declaration::{clause, constant, note_clause, tail};
+use cdl_expressions::text;
 use cdl_source::List;
 use cdl_tree::{ClassTree, Ident, Item, Kind};
 use std::alloc::Global;
@@ -107,7 +108,7 @@ fn block_parts(alloc: Global, tokens: &mut Cursor<'_>, most: usize) -> Result<Li
 }
 
 // "block" IDENT text { "public" | "protected" | note ";" | clause } [ "equation" { connect | note ";" } ] "end" IDENT
-#[tactic(auto, unfolding(crate::specs::Classes::block, crate::specs::Reading::made, cdl_tree::specs::Trees::the_block))]
+#[tactic(auto, unfolding(crate::specs::Classes::block, cdl_reading::specs::Reading::made, cdl_tree::specs::Trees::the_block))]
 fn block(alloc: Global, tokens: &mut Cursor<'_>, most: usize) -> Result<ClosedClass, Fault>
     ensures { Gives (spec.block most tokens.old) result tokens.new }
 {
@@ -156,7 +157,7 @@ fn literals(alloc: Global, tokens: &mut Cursor<'_>, most: usize) -> Result<List<
 }
 
 // "type" IDENT "=" "enumeration" "(" literal { "," literal } ")" tail
-#[tactic(auto, unfolding(crate::specs::Classes::enumeration, crate::specs::Reading::made, cdl_tree::specs::Trees::the_enumeration))]
+#[tactic(auto, unfolding(crate::specs::Classes::enumeration, cdl_reading::specs::Reading::made, cdl_tree::specs::Trees::the_enumeration))]
 fn enumeration(alloc: Global, tokens: &mut Cursor<'_>, most: usize) -> Result<ClosedClass, Fault>
     ensures { Gives (spec.enumeration most tokens.old) result tokens.new }
 {
@@ -299,7 +300,7 @@ impl<F: Fn(Global, &mut Cursor<'_>, usize) -> Result<ClosedClass, Fault>> Classe
     }
 
     // "package" IDENT text { "public" | "protected" | note ";" | constant | class ";" } "end" IDENT
-    #[tactic(auto, unfolding(crate::specs::Classes::package_class, crate::specs::Reading::made, cdl_tree::specs::Trees::the_package))]
+    #[tactic(auto, unfolding(crate::specs::Classes::package_class, cdl_reading::specs::Reading::made, cdl_tree::specs::Trees::the_package))]
     fn package(&self, tokens: &mut Cursor<'_>) -> Result<ClosedClass, Fault>
         requires { Nests spec.class self.now.depth (F.pre self.now.whole) (F.post self.now.whole) }
         ensures { Gives (spec.package_class self.now.depth (spec.class self.now.depth) tokens.old) result tokens.new }

@@ -1,11 +1,11 @@
 // Connect statements.
 ghost use Rattle.std.specs.Prelude.{◌≡◌, List, []};
-ghost use Rattle.cdl_parse.specs.Gives.{Gives};
+ghost use Rattle.cdl_reading.specs.Gives.{Gives};
 ghost use Rattle.cdl_parse.specs.Declarations as spec;
 
-use crate::cursor::{Cursor, Fault};
+use cdl_reading::{Cursor, Fault};
 use crate::declaration::{note_clause, tail};
-use crate::expression::expr;
+use cdl_expressions::expr;
 use cdl_source::List;
 use cdl_tree::{Connect, Kind, Part, Ref, Sub};
 use std::alloc::Global;
@@ -80,7 +80,7 @@ fn reference(alloc: Global, tokens: &mut Cursor<'_>, most: usize) -> Result<List
 }
 
 // connect = "connect" "(" ref "," ref ")" tail ";"
-#[tactic(auto, unfolding(crate::specs::Declarations::connect, crate::specs::Reading::made, cdl_tree::specs::Trees::the_connect))]
+#[tactic(auto, unfolding(crate::specs::Declarations::connect, cdl_reading::specs::Reading::made, cdl_tree::specs::Trees::the_connect))]
 fn connect(alloc: Global, tokens: &mut Cursor<'_>, most: usize) -> Result<Connect, Fault>
     ensures { Gives (spec.connect most tokens.old) result tokens.new }
 {

@@ -1,41 +1,15 @@
-// Texts, annotations, arguments and declarations. No list has more than `most` parts: the count of tokens is enough.
+// Annotations and declarations. No list has more than `most` parts: the count of tokens is enough.
 ghost use Rattle.std.specs.Prelude.{◌≡◌, List, [], Ok as Success};
 ghost use Rattle.cdl_tree.specs.Grammar as grammar;
 ghost use Rattle.cdl_tree.specs.Trees as trees;
-ghost use Rattle.cdl_parse.specs.Gives.{Gives, Nests};
-ghost use Rattle.cdl_parse.specs.Expressions.{expr as expression};
+ghost use Rattle.cdl_reading.specs.Gives.{Gives};
 ghost use Rattle.cdl_parse.specs.Declarations as spec;
 
-use crate::cursor::{Cursor, Fault};
-use crate::expression::{expr, name};
+use cdl_reading::{Cursor, Fault};
+use cdl_expressions::{expr, name, optional, optional_args, text};
 use cdl_source::List;
-use cdl_tree::{Dim, Expr, Item, Kind, Modifier, Name, Prefix};
+use cdl_tree::{Dim, Item, Kind, Modifier, Name, Prefix};
 use std::alloc::Global;
-
-// { "+" STRING }
-fn strings(tokens: &mut Cursor<'_>, most: usize) -> Result<(), Fault>
-    ensures { Gives (spec.strings_from most tokens.old) result tokens.new }
-{
-    for _turn in 0..most {
-        if !tokens.eat(Kind::Plus) {
-            return Ok(());
-        }
-        tokens.expect(Kind::Str)?;
-    }
-    Ok(())
-}
-
-/// `text = [ STRING { "+" STRING } ]`
-#[tactic(auto, unfolding(crate::specs::Declarations::text_of))]
-pub(crate) fn text(tokens: &mut Cursor<'_>, most: usize) -> Result<(), Fault>
-    ensures { Gives (spec.text_of most tokens.old) result tokens.new }
-{
-    if tokens.eat(Kind::Str) {
-        strings(tokens, most)
-    } else {
-        Ok(())
-    }
-}
 
 // What closes a bracket.
 fn partner(kind: Kind) -> Option<Kind>
@@ -160,140 +134,6 @@ pub(crate) fn tail(tokens: &mut Cursor<'_>, most: usize) -> Result<(), Fault>
     }
 }
 
-// An expression behind a word or a symbol, where it stands.
-#[tactic(auto, unfolding(crate::specs::Declarations::optional))]
-fn optional(
-    alloc: Global,
-    tokens: &mut Cursor<'_>,
-    kind: Kind,
-    most: usize,
-) -> Result<Option<Expr>, Fault>
-    ensures { Gives (spec.optional kind most tokens.old) result tokens.new }
-{
-    if !tokens.eat(kind) {
-        return Ok(None);
-    }
-    let value = expr(alloc, tokens, most)?;
-    Ok(Some(value))
-}
-
-/// Reads the productions of arguments.
-#[derive(Clone, Copy)]
-pub(crate) struct Arguments<F> {
-    alloc: Global,
-    /// How deep arguments may still nest, and how long lists are.
-    depth: usize,
-    whole: F,
-}
-
-impl<F: Fn(Global, &mut Cursor<'_>, usize) -> Result<List<Modifier>, Fault>> Arguments<F> {
-    fn whole(&self, tokens: &mut Cursor<'_>) -> Result<List<Modifier>, Fault>
-        requires { Nests spec.args self.now.depth (F.pre self.now.whole) (F.post self.now.whole) }
-        ensures { Gives (spec.args self.now.depth tokens.old) result tokens.new }
-    {
-        (self.whole)(self.alloc, tokens, self.depth)
-    }
-
-    // [ args ]
-    #[tactic(auto, unfolding(crate::specs::Declarations::optional_args))]
-    fn optional(&self, tokens: &mut Cursor<'_>) -> Result<Option<List<Modifier>>, Fault>
-        requires { Nests spec.args self.now.depth (F.pre self.now.whole) (F.post self.now.whole) }
-        ensures { Gives (spec.optional_args (spec.args self.now.depth) tokens.old) result tokens.new }
-    {
-        if !tokens.sees(Kind::Open) {
-            return Ok(None);
-        }
-        let args = self.whole(tokens)?;
-        Ok(Some(args))
-    }
-
-    // arg = [ "each" ] [ "final" ] IDENT [ args ] [ "=" expr ] text
-    #[tactic(auto, unfolding(crate::specs::Declarations::arg, crate::specs::Reading::made, cdl_tree::specs::Trees::the_modifier))]
-    fn arg(&self, tokens: &mut Cursor<'_>) -> Result<Modifier, Fault>
-        requires { Nests spec.args self.now.depth (F.pre self.now.whole) (F.post self.now.whole) }
-        ensures { Gives (spec.arg self.now.depth (spec.args self.now.depth) tokens.old) result tokens.new }
-    {
-        let start = tokens.here();
-        let each = tokens.eat(Kind::Each);
-        let is_final = tokens.eat(Kind::Final);
-        let name = tokens.ident(self.alloc)?;
-        let args = self.optional(tokens)?;
-        let value = optional(self.alloc, tokens, Kind::Equals, self.depth)?;
-        text(tokens, self.depth)?;
-        let span = tokens.span_since(&start);
-        Ok(Modifier {
-            each,
-            is_final,
-            name,
-            args,
-            value,
-            span,
-        })
-    }
-
-    // arg { "," arg }
-    fn list(&self, tokens: &mut Cursor<'_>) -> Result<List<Modifier>, Fault>
-        requires { Nests spec.args self.now.depth (F.pre self.now.whole) (F.post self.now.whole) }
-        ensures { Gives (spec.arg_list self.now.depth (spec.args self.now.depth) tokens.old) result tokens.new }
-    {
-        let mut found = List::new(self.alloc);
-        found.push(self.arg(tokens)?)?;
-        for _turn in 0..self.depth {
-            if !tokens.eat(Kind::Comma) {
-                return Ok(found);
-            }
-            found.push(self.arg(tokens)?)?;
-        }
-        Ok(found)
-    }
-
-    // args = "(" [ arg { "," arg } ] ")"
-    #[tactic(auto, unfolding(crate::specs::Declarations::arguments))]
-    pub(crate) fn arguments(&self, tokens: &mut Cursor<'_>) -> Result<List<Modifier>, Fault>
-        requires { Nests spec.args self.now.depth (F.pre self.now.whole) (F.post self.now.whole) }
-        ensures { Gives (spec.arguments self.now.depth (spec.args self.now.depth) tokens.old) result tokens.new }
-    {
-        tokens.expect(Kind::Open)?;
-        if tokens.eat(Kind::Close) {
-            return Ok(List::new(self.alloc));
-        }
-        let found = self.list(tokens)?;
-        tokens.expect(Kind::Close)?;
-        Ok(found)
-    }
-}
-
-// Arguments that nest no deeper than `depth`.
-fn args(alloc: Global, tokens: &mut Cursor<'_>, depth: usize) -> Result<List<Modifier>, Fault>
-    ensures { Gives (spec.args depth tokens.old) result tokens.new }
-{
-    if depth == 0 {
-        return Err(Fault::Syntax);
-    }
-    Arguments {
-        alloc,
-        depth: depth - 1,
-        whole: args,
-    }
-    .arguments(tokens)
-}
-
-// [ args ]
-#[tactic(auto, unfolding(crate::specs::Declarations::optional_args))]
-fn optional_args(
-    alloc: Global,
-    tokens: &mut Cursor<'_>,
-    most: usize,
-) -> Result<Option<List<Modifier>>, Fault>
-    ensures { Gives (spec.optional_args (spec.args most) tokens.old) result tokens.new }
-{
-    if !tokens.sees(Kind::Open) {
-        return Ok(None);
-    }
-    let found = args(alloc, tokens, most)?;
-    Ok(Some(found))
-}
-
 // No list of arguments is an empty one in the tree of a declaration.
 fn listed(alloc: Global, args: Option<List<Modifier>>) -> List<Modifier>
     ensures { result ≡ trees.listed args }
@@ -353,7 +193,7 @@ pub(crate) struct Head {
 }
 
 // decl = IDENT [ "[" dim { "," dim } "]" ] [ args ] [ "=" expr ] [ "if" expr ] tail
-#[tactic(auto, unfolding(crate::specs::Declarations::decl, crate::specs::Reading::made, cdl_tree::specs::Trees::the_item))]
+#[tactic(auto, unfolding(crate::specs::Declarations::decl, cdl_reading::specs::Reading::made, cdl_tree::specs::Trees::the_item))]
 fn decl(alloc: Global, tokens: &mut Cursor<'_>, most: usize, head: &Head) -> Result<Item, Fault>
     ensures { Gives (spec.decl most (record { is_final = head.now.is_final; prefix = head.now.prefix; class = head.now.class }) tokens.old) result tokens.new }
 {

@@ -1,12 +1,12 @@
 // Files.
 ghost use Rattle.std.specs.Prelude.{◌≡◌};
-ghost use Rattle.cdl_parse.specs.Gives.{Gives};
+ghost use Rattle.cdl_reading.specs.Gives.{Gives};
 ghost use Rattle.cdl_parse.specs.Classes as spec;
 
 use crate::class::file_class;
 use crate::closed::{ClosedFile, FileParts};
-use crate::cursor::{Cursor, Fault};
-use crate::expression::name;
+use cdl_reading::{Cursor, Fault};
+use cdl_expressions::name;
 use cdl_source::List;
 use cdl_tree::{FileTree, Kind, Name};
 use std::alloc::Global;

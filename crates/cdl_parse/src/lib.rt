@@ -4,21 +4,21 @@
 ghost use Rattle.std.specs.Prelude.{◌≡◌, IfOk, IfErr};
 ghost use Rattle.cdl_parse.specs.declared.ParseFault.TheVariants.{Rule};
 ghost use Rattle.cdl_tree.specs.declared.class.FileTree.{FileTree as Tree};
-ghost use Rattle.cdl_parse.specs.Verdict.{word_of, Closes, IsTree, IsRefused, begin_of};
+ghost use Rattle.cdl_reading.specs.Reading.{word_of};
+ghost use Rattle.cdl_parse.specs.Verdict.{Closes, IsTree, IsRefused, begin_of};
 
 mod class;
 mod closed;
 mod connection;
-mod cursor;
 mod declaration;
-mod expression;
 mod file;
 mod law;
 
 use crate::closed::ClosedFile;
-use crate::cursor::{Cursor, Fault};
+use cdl_reading::{Cursor, Fault};
 use crate::file::whole_file;
 use cdl_lex::Tokens;
+use cdl_reading::{Cursor, Fault};
 use cdl_source::Place;
 use cdl_tree::FileTree;
 pub use law::one_tree;

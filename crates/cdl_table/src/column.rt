@@ -1,5 +1,5 @@
 // Columns of tables and of traces.
-use cdl_kinds::ValueType;
+use cdl_values::ValueType;
 use cdl_source::Text;
 
 /// A column: its name in the header, and the type of its values. A value is one word: 0 or 1 for a Boolean, the number for an
@@ -7,5 +7,5 @@ use cdl_source::Text;
 #[derive(Debug, Drop)]
 pub struct Column {
     pub name: Text,
-    pub kind: ValueType,
+    pub value_type: ValueType,
 }

@@ -1,6 +1,6 @@
 // Values of literals, and the terminals of the grammar.
 use cdl_source::Sort;
-use cdl_tree::{Kind, integer, kind_of, string};
+use cdl_tree::{Terminal, integer, string, terminal_of};
 use std::test::Fail;
 
 #[test]
@@ -33,16 +33,16 @@ fn literals_and_terminals(rt: HostRuntime) -> Result<(), Fail> {
             _ => panic!(rt; "not as wanted"),
         }
     }
-    let kinds: [(Sort, &[u8], Kind); 6] = [
-        (Sort::Identifier, b"a", Kind::Identifier),
-        (Sort::Keyword, b"elseif", Kind::ElseIf),
-        (Sort::Keyword, b"when", Kind::Other),
-        (Sort::Symbol, b"<>", Kind::NotEqual),
-        (Sort::Symbol, b"^", Kind::Other),
-        (Sort::Str, b"\"if\"", Kind::Str),
+    let terminals: [(Sort, &[u8], Terminal); 6] = [
+        (Sort::Identifier, b"a", Terminal::Identifier),
+        (Sort::Keyword, b"elseif", Terminal::ElseIf),
+        (Sort::Keyword, b"when", Terminal::Other),
+        (Sort::Symbol, b"<>", Terminal::NotEqual),
+        (Sort::Symbol, b"^", Terminal::Other),
+        (Sort::Str, b"\"if\"", Terminal::Str),
     ];
-    for (sort, text, kind) in kinds {
-        assert_eq!(rt; kind_of(sort, text), kind);
+    for (sort, text, terminal) in terminals {
+        assert_eq!(rt; terminal_of(sort, text), terminal);
     }
     Ok(())
 }

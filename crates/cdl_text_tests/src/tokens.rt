@@ -116,7 +116,7 @@ fn each_rule_has_its_first_byte(rt: HostRuntime) -> Result<(), Fail> {
     for (text, want) in texts {
         assert_eq!(rt; judged(alloc, text)?, want, "of {} bytes", text.len());
     }
-    let limits: [(&[u8], &[u8], u32, &[u8], Verdict); 33] = [
+    let limits: [(&[u8], &[u8], u32, &[u8], Verdict); 43] = [
         (b"", b" ", 524_288, b"", Verdict::Has(0)),
         (b"", b" ", 524_289, b"", Verdict::Breaks(1, 524_288)),
         (b"", b"\xff", 524_289, b"", Verdict::Breaks(1, 524_288)),
@@ -131,6 +131,16 @@ fn each_rule_has_its_first_byte(rt: HostRuntime) -> Result<(), Fail> {
         (b"block ", b"(", 64, b"", Verdict::Breaks(5, 69)),
         (b"", b"(block)", 65, b"", Verdict::Has(195)),
         (b"", b"(end", 64, b")", Verdict::Has(129)),
+        (b"", b"for i in 1:1 loop ", 64, b"", Verdict::Has(448)),
+        (b"", b"for i in 1:1 loop ", 65, b"", Verdict::Breaks(5, 1152)),
+        (b"block ", b"for ", 64, b"", Verdict::Breaks(5, 258)),
+        (b"end ", b"for ", 65, b"", Verdict::Has(66)),
+        (b"end ", b"for ", 66, b"", Verdict::Breaks(5, 264)),
+        (b"", b"end for ", 65, b"", Verdict::Has(130)),
+        (b"", b"end /*a*/ // b\n for ", 65, b"", Verdict::Has(130)),
+        (b"", b"for end for ", 65, b"", Verdict::Has(195)),
+        (b"", b"(for)", 65, b"", Verdict::Has(195)),
+        (b"", b"end; for ", 65, b"", Verdict::Has(195)),
         (b"", b"if ", 64, b"; if", Verdict::Has(66)),
         (b"", b"if ", 65, b"", Verdict::Breaks(6, 192)),
         (b"", b"+", 1024, b"; and", Verdict::Has(1026)),

@@ -11,14 +11,17 @@ use Rattle.cdl_tree.specs.declared.class.Item.{Item}
 use Rattle.cdl_tree.specs.declared.class.Part.{Part}
 use Rattle.cdl_tree.specs.declared.class.Sub.{Sub}
 use Rattle.cdl_tree.specs.declared.class.Connect.{Connect}
+use Rattle.cdl_tree.specs.declared.class.Statement.{Statement, the_lemmas as statement_lemmas}
+use Rattle.cdl_tree.specs.declared.class.Statement.TheVariants as statement
+use Rattle.cdl_tree.specs.declared.class.Loop.{Loop}
 use Rattle.cdl_tree.specs.declared.class.ClassTree.{ClassTree, the_lemmas as class_lemmas}
 use Rattle.cdl_tree.specs.declared.class.Closing.{Closing}
 use Rattle.cdl_tree.specs.declared.class.FileTree.{FileTree}
 use Rattle.cdl_tree.specs.Words.{Word}
-use Rattle.cdl_tree.specs.Trees.{the_modifier, listed, Head, the_item, the_connect, the_block, the_package, the_enumeration}
-use Rattle.cdl_tree.specs.Proper.{is_some, all_of}
-use Rattle.cdl_tree.specs.ProperFiles.{proper_value, proper_dim, proper_modifier, proper_item, proper_sub, proper_part, proper_connect, proper_class, proper_within, proper_file}
-use Rattle.cdl_tree.specs.Grammar.{Value, no_value, value, Condition, no_condition, condition, ArgsOf, no_arg, args, ArgList, one_arg, more_args, OptionalArgs, without_args, with_args, ArgOf, arg, DimOf, any_size, a_size, DimList, one_dim, more_dims, Dims, no_dim, dims, DeclOf, decl, Decls, one_decl, more_decls, ClauseOf, clause, ConstantOf, constant, SubOf, all_places, one_place, places, SubList, one_sub, more_subs, no_sub, subs, PartOf, part, RefOf, one_part, more_parts, ConnectOf, connect, Statements, no_statement, then_connect, then_note, EquationPart, no_equation, equation, BlockParts, no_block_part, block_section, block_note, block_clause, Literals, one_literal, more_literals, ClassOf, a_block, a_package, an_enumeration, PackageParts, no_package_part, package_section, package_note, package_constant, package_class, Within, no_within, within_top, within, Classes, one_class, more_classes, FileOf, file, Sentence}
+use Rattle.cdl_tree.specs.Trees.{the_modifier, listed, Head, the_item, the_connect, the_loop, the_block, the_package, the_enumeration}
+use Rattle.cdl_tree.specs.Proper.{is_some, all_of, is_proper}
+use Rattle.cdl_tree.specs.ProperFiles.{proper_value, proper_dim, proper_modifier, proper_item, proper_sub, proper_part, proper_connect, proper_statement, proper_class, proper_within, proper_file}
+use Rattle.cdl_tree.specs.Grammar.{Value, no_value, value, Condition, no_condition, condition, ArgsOf, no_arg, args, ArgList, one_arg, more_args, OptionalArgs, without_args, with_args, ArgOf, arg, DimOf, any_size, a_size, DimList, one_dim, more_dims, Dims, no_dim, dims, DeclOf, decl, Decls, one_decl, more_decls, ClauseOf, clause, ConstantOf, constant, SubOf, all_places, one_place, places, SubList, one_sub, more_subs, no_sub, subs, PartOf, part, RefOf, one_part, more_parts, ConnectOf, connect, Statements, StatementOf, a_connect, a_loop, LoopOf, loop, Body, no_body, more_body, no_statement, then_statement, then_note, EquationPart, no_equation, equation, BlockParts, no_block_part, block_section, block_note, block_clause, Literals, one_literal, more_literals, ClassOf, a_block, a_package, an_enumeration, PackageParts, no_package_part, package_section, package_note, package_constant, package_class, Within, no_within, within_top, within, Classes, one_class, more_classes, FileOf, file, Sentence}
 use Rattle.cdl_tree.proofs.Shapes.{both, some_behind, name_some, expr_proper}
 
 joined : {A : Type 0} (p : A → Bool) (xs ys : List A) → list_all p xs ≡ true → list_all p ys ≡ true → list_all p (xs ++ ys) ≡ true
@@ -138,12 +141,36 @@ connect_proper : {w : Word} {c : Connect} → ConnectOf w c → proper_connect c
 unfolding the_connect
 connect_proper (connect c o m e s h i l j r n t q) = both _ _ (both _ _ (parts_some l) (parts_proper l)) (both _ _ (parts_some r) (parts_proper r))
 
-statements_proper : {w : Word} {cs : List Connect} → Statements w cs → list_all proper_connect cs ≡ true
+-- ---- statements
+
+connect_is : (c : Connect) → proper_statement (statement.Connect c) ≡ proper_connect c
+unfolding proper_statement
+connect_is c = search (rules, statement_lemmas)
+
+loop_is : (i : Ident) (l h : Expr) (body : List Statement) (w : Word)
+    → proper_statement (statement.Loop (the_loop i l h body w)) ≡ (is_proper l && (is_proper h && all_of (map proper_statement body)))
+unfolding proper_statement the_loop
+loop_is i l h body w = search (rules, statement_lemmas)
+
+mutual
+  statement_proper : {w : Word} {x : Statement} → StatementOf w x → proper_statement x ≡ true
+  statement_proper (a_connect {c = c} x) = connect_is c ∙ connect_proper x
+  statement_proper (a_loop {l = l} x) = loop_proper x
+
+  loop_proper : {w : Word} {l : Loop} → LoopOf w l → proper_statement (statement.Loop l) ≡ true
+  loop_proper (loop f i n c o e g s {body = body} hf hi hn x hc y ho b he hg hs) =
+      loop_is _ _ _ body _ ∙ both _ _ (expr_proper x) (both _ _ (expr_proper y) (all_is proper_statement body ∙ body_proper b))
+
+  body_proper : {w : Word} {xs : List Statement} → Body w xs → list_all proper_statement xs ≡ true
+  body_proper no_body = refl
+  body_proper (more_body {xs = xs} {x = x} b y) = further proper_statement xs x (body_proper b) (statement_proper y)
+
+statements_proper : {w : Word} {xs : List Statement} → Statements w xs → list_all proper_statement xs ≡ true
 statements_proper no_statement = refl
-statements_proper (then_connect {cs = cs} {c = c} xs x) = further proper_connect cs c (statements_proper xs) (connect_proper x)
+statements_proper (then_statement {xs = xs} {x = x} ss y) = further proper_statement xs x (statements_proper ss) (statement_proper y)
 statements_proper (then_note s xs n h) = statements_proper xs
 
-equation_proper : {w : Word} {cs : List Connect} → EquationPart w cs → list_all proper_connect cs ≡ true
+equation_proper : {w : Word} {xs : List Statement} → EquationPart w xs → list_all proper_statement xs ≡ true
 equation_proper no_equation = refl
 equation_proper (equation t h xs) = statements_proper xs
 
@@ -159,9 +186,9 @@ literals_some : {w : Word} {is : List Ident} → Literals w is → is_some is �
 literals_some (one_literal x) = refl
 literals_some (more_literals t {is} {i} xs h x) = some_behind is i
 
-block_is : (n : Ident) (xs : List Item) (cs : List Connect) (w : Word) → proper_class (the_block n xs cs w) ≡ (list_all proper_item xs && list_all proper_connect cs)
+block_is : (n : Ident) (xs : List Item) (ss : List Statement) (w : Word) → proper_class (the_block n xs ss w) ≡ (list_all proper_item xs && list_all proper_statement ss)
 unfolding proper_class the_block
-block_is n xs cs w = search (rules, class_lemmas)
+block_is n xs ss w = search (rules, class_lemmas)
 
 package_is : (n : Ident) (ts : List ClassTree) (xs : List Item) (w : Word) → proper_class (the_package n ts xs w) ≡ (all_of (map proper_class ts) && list_all proper_item xs)
 unfolding proper_class the_package

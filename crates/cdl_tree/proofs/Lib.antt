@@ -6,3 +6,4 @@ mod SmallExprs
 mod SmallFiles
 pub mod Shapes
 pub mod FileShapes
+mod Evaluated

@@ -1,7 +1,7 @@
 -- Every expression of a text is proper.
 use Rattle.std.proofs.Common.{◌≡◌, ℕ, Bool, true, false, ◌&&◌, List, [], ◌∷◌, ◌++◌, map, Some, ℤ, refl, ◌∙◌, rules}
-use Rattle.cdl_tree.specs.declared.kind.Kind.{Kind}
-use Rattle.cdl_tree.specs.declared.kind.Kind.TheVariants as k
+use Rattle.cdl_tree.specs.declared.terminal.Terminal.{Terminal}
+use Rattle.cdl_tree.specs.declared.terminal.Terminal.TheVariants as the
 use Rattle.cdl_tree.specs.declared.name.Ident.{Ident}
 use Rattle.cdl_tree.specs.declared.expr.Op.{Op}
 use Rattle.cdl_tree.specs.declared.expr.Op.TheVariants as op
@@ -12,23 +12,23 @@ use Rattle.cdl_tree.specs.Trees.{comparison, sign, factor, tree, the_name}
 use Rattle.cdl_tree.specs.Proper.{is_unary, is_binary, is_some, all_of, is_proper}
 use Rattle.cdl_tree.specs.Grammar.{NameOf, single, dotted, ExprOf, conditional, logical, Otherwise, otherwise_if, otherwise, Lor, one_land, or_land, Land, one_lnot, and_lnot, Lnot, as_it_is, not_rel, Rel, one_sum, compared, Sum, one_term, signed, added, Term, one_prim, times, Prim, integer, real, string, true_word, false_word, paren, array, call, refer, Operands, no_operand, operands, Subscripts, no_subscript, subscripts, Exprs, one_expr, more_exprs}
 
-comparison_binary : (kind : Kind) (o : Op) → comparison kind ≡ Some o → is_binary o ≡ true
-comparison_binary k.Less o e = cc
-comparison_binary k.LessEqual o e = cc
-comparison_binary k.Greater o e = cc
-comparison_binary k.GreaterEqual o e = cc
-comparison_binary k.EqualEqual o e = cc
-comparison_binary k.NotEqual o e = cc
+comparison_binary : (terminal : Terminal) (o : Op) → comparison terminal ≡ Some o → is_binary o ≡ true
+comparison_binary the.Less o e = cc
+comparison_binary the.LessEqual o e = cc
+comparison_binary the.Greater o e = cc
+comparison_binary the.GreaterEqual o e = cc
+comparison_binary the.EqualEqual o e = cc
+comparison_binary the.NotEqual o e = cc
 comparison_binary _ o e = cc
 
-sign_both : (kind : Kind) (o : Op) → sign kind ≡ Some o → (is_binary o ≡ true) × (is_unary o ≡ true)
-sign_both k.Plus o e = (cc, cc)
-sign_both k.Minus o e = (cc, cc)
+sign_both : (terminal : Terminal) (o : Op) → sign terminal ≡ Some o → (is_binary o ≡ true) × (is_unary o ≡ true)
+sign_both the.Plus o e = (cc, cc)
+sign_both the.Minus o e = (cc, cc)
 sign_both _ o e = (cc, cc)
 
-factor_binary : (kind : Kind) (o : Op) → factor kind ≡ Some o → is_binary o ≡ true
-factor_binary k.Star o e = cc
-factor_binary k.Slash o e = cc
+factor_binary : (terminal : Terminal) (o : Op) → factor terminal ≡ Some o → is_binary o ≡ true
+factor_binary the.Star o e = cc
+factor_binary the.Slash o e = cc
 factor_binary _ o e = cc
 
 pub some_behind : {A : Type 0} (xs : List A) (x : A) → is_some (xs ++ x ∷ []) ≡ true
@@ -48,7 +48,7 @@ both true true e f = refl
 both true false e f = f
 both false b e f = e
 
-split : (a b : Bool) → (a && b) ≡ true → (a ≡ true) × (b ≡ true)
+pub split : (a b : Bool) → (a && b) ≡ true → (a ≡ true) × (b ≡ true)
 split true b e = (refl, e)
 split false b e = absurd (cc)
 
@@ -143,16 +143,16 @@ mutual
 
   rel_proper : {w : Word} {e : Expr} → Rel w e → is_proper e ≡ true
   rel_proper (one_sum x) = sum_proper x
-  rel_proper (compared t {o} x h y) = binary o _ _ _ (comparison_binary t.kind o h) (sum_proper x) (sum_proper y)
+  rel_proper (compared t {o} x h y) = binary o _ _ _ (comparison_binary t.terminal o h) (sum_proper x) (sum_proper y)
 
   sum_proper : {w : Word} {e : Expr} → Sum w e → is_proper e ≡ true
   sum_proper (one_term x) = term_proper x
-  sum_proper (signed t {o = o} h x) = unary o _ _ (sign_both t.kind o h).1 (term_proper x)
-  sum_proper (added t {o} x h y) = binary o _ _ _ (sign_both t.kind o h).0 (sum_proper x) (term_proper y)
+  sum_proper (signed t {o = o} h x) = unary o _ _ (sign_both t.terminal o h).1 (term_proper x)
+  sum_proper (added t {o} x h y) = binary o _ _ _ (sign_both t.terminal o h).0 (sum_proper x) (term_proper y)
 
   term_proper : {w : Word} {e : Expr} → Term w e → is_proper e ≡ true
   term_proper (one_prim x) = prim_proper x
-  term_proper (times t {o} x h y) = binary o _ _ _ (factor_binary t.kind o h) (term_proper x) (prim_proper y)
+  term_proper (times t {o} x h y) = binary o _ _ _ (factor_binary t.terminal o h) (term_proper x) (prim_proper y)
 
   prim_proper : {w : Word} {e : Expr} → Prim w e → is_proper e ≡ true
   prim_proper (integer t h v) = integer_is _ _

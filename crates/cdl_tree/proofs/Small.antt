@@ -11,6 +11,8 @@ use Rattle.cdl_tree.specs.declared.class.Modifier.{Modifier, roll-Modifier}
 use Rattle.cdl_tree.specs.declared.class.Item.{Item}
 use Rattle.cdl_tree.specs.declared.class.Part.{Part}
 use Rattle.cdl_tree.specs.declared.class.Connect.{Connect}
+use Rattle.cdl_tree.specs.declared.class.Statement.{Statement}
+use Rattle.cdl_tree.specs.declared.class.Loop.{Loop, roll-Loop}
 use Rattle.cdl_tree.specs.Words.{Word}
 use Rattle.cdl_tree.specs.declared.class.Prefix.{Prefix}
 use Rattle.cdl_tree.specs.declared.class.Dim.{Dim}
@@ -72,6 +74,9 @@ declared prefix is_final class name dims args value condition a b =
 
 abbrev pub wire : List Part → List Part → ℕ → ℕ → Connect
 wire left right a b = record { left = record { parts = left }; right = record { parts = right }; span = span a b }
+
+abbrev pub turns : Ident → Expr → Expr → List Statement → ℕ → ℕ → Loop
+turns index low high body a b = roll-Loop (record { index = index; low = low; high = high; body = body; span = span a b })
 
 -- an operand alone as an expression
 abbrev pub operand : {w : Word} {e : Expr} → Prim w e → ExprOf w e

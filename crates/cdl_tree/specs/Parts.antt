@@ -3,39 +3,39 @@ use Rattle.std.specs.Prelude.{List, []}
 use Rattle.cdl_source.specs.declared.place.Span.{Span}
 use Rattle.cdl_tree.specs.declared.name.Ident.{Ident}
 use Rattle.cdl_tree.specs.declared.class.Item.{Item}
-use Rattle.cdl_tree.specs.declared.class.Connect.{Connect}
+use Rattle.cdl_tree.specs.declared.class.Statement.{Statement}
 use Rattle.cdl_tree.specs.declared.class.ClassTree.{ClassTree, out-ClassTree}
 use Rattle.cdl_tree.specs.declared.class.ClassTree.TheOpen.{ClassTree-F}
 
 abbrev pub name_at : ClassTree-F ClassTree → Ident
-name_at (ClassTree-F.Block name items connects span) = name
+name_at (ClassTree-F.Block name items statements span) = name
 name_at (ClassTree-F.Package name classes constants span) = name
 name_at (ClassTree-F.Enumeration name literals span) = name
 
 abbrev pub span_at : ClassTree-F ClassTree → Span
-span_at (ClassTree-F.Block name items connects span) = span
+span_at (ClassTree-F.Block name items statements span) = span
 span_at (ClassTree-F.Package name classes constants span) = span
 span_at (ClassTree-F.Enumeration name literals span) = span
 
 abbrev pub items_at : ClassTree-F ClassTree → List Item
-items_at (ClassTree-F.Block name items connects span) = items
+items_at (ClassTree-F.Block name items statements span) = items
 items_at (ClassTree-F.Package name classes constants span) = constants
 items_at (ClassTree-F.Enumeration name literals span) = []
 
 abbrev pub classes_at : ClassTree-F ClassTree → List ClassTree
-classes_at (ClassTree-F.Block name items connects span) = []
+classes_at (ClassTree-F.Block name items statements span) = []
 classes_at (ClassTree-F.Package name classes constants span) = classes
 classes_at (ClassTree-F.Enumeration name literals span) = []
 
 abbrev pub literals_at : ClassTree-F ClassTree → List Ident
-literals_at (ClassTree-F.Block name items connects span) = []
+literals_at (ClassTree-F.Block name items statements span) = []
 literals_at (ClassTree-F.Package name classes constants span) = []
 literals_at (ClassTree-F.Enumeration name literals span) = literals
 
-abbrev pub connects_at : ClassTree-F ClassTree → List Connect
-connects_at (ClassTree-F.Block name items connects span) = connects
-connects_at (ClassTree-F.Package name classes constants span) = []
-connects_at (ClassTree-F.Enumeration name literals span) = []
+abbrev pub statements_at : ClassTree-F ClassTree → List Statement
+statements_at (ClassTree-F.Block name items statements span) = statements
+statements_at (ClassTree-F.Package name classes constants span) = []
+statements_at (ClassTree-F.Enumeration name literals span) = []
 
 -- the declared identifier
 unfoldable pub class_name : ClassTree → Ident
@@ -56,6 +56,6 @@ classes_of c = classes_at (out-ClassTree c)
 unfoldable pub literals_of : ClassTree → List Ident
 literals_of c = literals_at (out-ClassTree c)
 
--- the connect statements of a block
-unfoldable pub connects_of : ClassTree → List Connect
-connects_of c = connects_at (out-ClassTree c)
+-- the statements of a block
+unfoldable pub statements_of : ClassTree → List Statement
+statements_of c = statements_at (out-ClassTree c)

@@ -1,4 +1,4 @@
--- What holds of every expression that a text has: a name has a part, an array has an item, and an operator the operands that it takes.
+-- What the value of an expression needs: a name has a part, an array has an item, and an operator the operands that it takes.
 use Rattle.std.specs.Prelude.{Bool, true, false, ◌&&◌, List, [], ◌∷◌}
 use Rattle.cdl_tree.specs.declared.expr.Op.{Op}
 use Rattle.cdl_tree.specs.declared.expr.Op.TheVariants as op

@@ -13,6 +13,8 @@ use Rattle.cdl_tree.specs.declared.class.Ref.{Ref}
 use Rattle.cdl_tree.specs.declared.class.Sub.{Sub}
 use Rattle.cdl_tree.specs.declared.class.Sub.TheVariants as sub
 use Rattle.cdl_tree.specs.declared.class.Connect.{Connect}
+use Rattle.cdl_tree.specs.declared.class.Statement.{Statement, fold-Statement}
+use Rattle.cdl_tree.specs.declared.class.Statement.TheOpen.{Statement-F, Loop-F}
 use Rattle.cdl_tree.specs.declared.class.ClassTree.{ClassTree, fold-ClassTree}
 use Rattle.cdl_tree.specs.declared.class.ClassTree.TheOpen.{ClassTree-F}
 use Rattle.cdl_tree.specs.declared.class.FileTree.{FileTree}
@@ -56,8 +58,18 @@ proper_ref r = is_some r.parts && list_all proper_part r.parts
 abbrev pub proper_connect : Connect → Bool
 proper_connect c = proper_ref c.left && proper_ref c.right
 
+abbrev pub statement_step : Statement-F Bool Bool → Bool
+statement_step (Statement-F.Connect c) = proper_connect c
+statement_step (Statement-F.Loop l) = l
+
+abbrev pub loop_step : Loop-F Bool Bool → Bool
+loop_step l = is_proper l.low && (is_proper l.high && all_of l.body)
+
+unfoldable pub proper_statement : Statement → Bool
+proper_statement = fold-Statement Bool Bool statement_step loop_step
+
 abbrev pub class_step : ClassTree-F Bool → Bool
-class_step (ClassTree-F.Block name items connects span) = list_all proper_item items && list_all proper_connect connects
+class_step (ClassTree-F.Block name items statements span) = list_all proper_item items && list_all proper_statement statements
 class_step (ClassTree-F.Package name classes constants span) = all_of classes && list_all proper_item constants
 class_step (ClassTree-F.Enumeration name literals span) = is_some literals
 

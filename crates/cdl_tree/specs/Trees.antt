@@ -1,7 +1,7 @@
 -- The trees that productions make, as plain values.
 use Rattle.std.specs.Prelude.{Bool, List, [], Option, Some, None}
-use Rattle.cdl_tree.specs.declared.kind.Kind.{Kind}
-use Rattle.cdl_tree.specs.declared.kind.Kind.TheVariants as k
+use Rattle.cdl_tree.specs.declared.terminal.Terminal.{Terminal}
+use Rattle.cdl_tree.specs.declared.terminal.Terminal.TheVariants as the
 use Rattle.cdl_tree.specs.declared.name.Ident.{Ident}
 use Rattle.cdl_tree.specs.declared.name.Name.{Name}
 use Rattle.cdl_tree.specs.declared.expr.Op.{Op}
@@ -16,36 +16,38 @@ use Rattle.cdl_tree.specs.declared.class.Part.{Part}
 use Rattle.cdl_tree.specs.declared.class.Ref.{Ref}
 use Rattle.cdl_tree.specs.declared.class.Sub.{Sub}
 use Rattle.cdl_tree.specs.declared.class.Connect.{Connect}
+use Rattle.cdl_tree.specs.declared.class.Statement.{Statement}
+use Rattle.cdl_tree.specs.declared.class.Loop.{Loop, roll-Loop}
 use Rattle.cdl_tree.specs.declared.class.ClassTree.{ClassTree}
 use Rattle.cdl_tree.specs.declared.class.ClassTree.TheVariants as class
 use Rattle.cdl_tree.specs.declared.class.Closing.{Closing}
 use Rattle.cdl_tree.specs.declared.class.FileTree.{FileTree}
-use Rattle.cdl_tree.specs.Words.{Terminal, Word, span_of}
+use Rattle.cdl_tree.specs.Words.{Lexeme, Word, span_of}
 
-abbrev pub the_ident : Terminal → Ident
+abbrev pub the_ident : Lexeme → Ident
 the_ident t = record { text = t.text; span = t.span }
 
 abbrev pub the_name : List Ident → Name
 the_name parts = record { parts = parts }
 
 -- the operators of each level, by their tokens
-abbrev pub comparison : Kind → Option Op
-comparison k.Less = Some op.Less
-comparison k.LessEqual = Some op.LessEqual
-comparison k.Greater = Some op.Greater
-comparison k.GreaterEqual = Some op.GreaterEqual
-comparison k.EqualEqual = Some op.Equal
-comparison k.NotEqual = Some op.NotEqual
+abbrev pub comparison : Terminal → Option Op
+comparison the.Less = Some op.Less
+comparison the.LessEqual = Some op.LessEqual
+comparison the.Greater = Some op.Greater
+comparison the.GreaterEqual = Some op.GreaterEqual
+comparison the.EqualEqual = Some op.Equal
+comparison the.NotEqual = Some op.NotEqual
 comparison _ = None
 
-abbrev pub sign : Kind → Option Op
-sign k.Plus = Some op.Plus
-sign k.Minus = Some op.Minus
+abbrev pub sign : Terminal → Option Op
+sign the.Plus = Some op.Plus
+sign the.Minus = Some op.Minus
 sign _ = None
 
-abbrev pub factor : Kind → Option Op
-factor k.Star = Some op.Times
-factor k.Slash = Some op.Divide
+abbrev pub factor : Terminal → Option Op
+factor the.Star = Some op.Times
+factor the.Slash = Some op.Divide
 factor _ = None
 
 -- an expression, with the span of a word
@@ -90,8 +92,11 @@ the_ref parts = record { parts = parts }
 unfoldable pub the_connect : Ref → Ref → Word → Connect
 the_connect left right w = record { left = left; right = right; span = span_of w }
 
-unfoldable pub the_block : Ident → List Item → List Connect → Word → ClassTree
-the_block name items connects w = class.Block name items connects (span_of w)
+unfoldable pub the_loop : Ident → Expr → Expr → List Statement → Word → Loop
+the_loop index low high body w = roll-Loop (record { index = index; low = low; high = high; body = body; span = span_of w })
+
+unfoldable pub the_block : Ident → List Item → List Statement → Word → ClassTree
+the_block name items statements w = class.Block name items statements (span_of w)
 
 unfoldable pub the_package : Ident → List ClassTree → List Item → Word → ClassTree
 the_package name classes constants w = class.Package name classes constants (span_of w)

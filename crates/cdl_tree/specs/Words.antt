@@ -1,18 +1,18 @@
--- Words of the grammar: lists of terminals.
+-- Words of the grammar: lists of lexemes.
 use Rattle.std.specs.Prelude.{ℕ, Bool, List, [], ◌∷◌}
 use denote.Enum.Bare.{sameb}
 use Rattle.cdl_source.specs.declared.place.Span.{Span}
-use Rattle.cdl_tree.specs.declared.kind.Kind.{Kind}
-use Rattle.cdl_tree.specs.contracts.kind.Kind.{the_type}
+use Rattle.cdl_tree.specs.declared.terminal.Terminal.{Terminal}
+use Rattle.cdl_tree.specs.contracts.terminal.Terminal.{the_type}
 
 -- a token as the grammar sees it: what it is, its bytes, and where they stand
-pub record Terminal : Type 0 where
-  pub kind : Kind
+pub record Lexeme : Type 0 where
+  pub terminal : Terminal
   pub text : List ℕ
   pub span : Span
 
 abbrev pub Word : Type 0
-Word = List Terminal
+Word = List Lexeme
 
 -- where the last token ends, or last where there is none
 abbrev pub ending : ℕ → Word → ℕ
@@ -24,5 +24,5 @@ abbrev pub span_of : Word → Span
 span_of [] = record { start = 0; end = 0 }
 span_of (t ∷ ts) = record { start = t.span.start; end = ending t.span.end ts }
 
-unfoldable pub same_kind : Kind → Kind → Bool
-same_kind = sameb the_type
+unfoldable pub same_terminal : Terminal → Terminal → Bool
+same_terminal = sameb the_type

@@ -17,11 +17,11 @@ pub struct FileTree {
 /// A declared class.
 #[derive(Drop)]
 pub enum ClassTree {
-    /// The items and the connect statements of a block, each in the order of the text.
+    /// The items and the statements of a block, each in the order of the text.
     Block {
         name: Ident,
         items: List<Item>,
-        connects: List<Connect>,
+        statements: List<Statement>,
         span: Span,
     },
     /// The classes and the constants of a package, each in the order of the text.
@@ -77,6 +77,26 @@ pub struct Modifier {
     pub name: Ident,
     pub args: Option<List<Modifier>>,
     pub value: Option<Expr>,
+    pub span: Span,
+}
+
+/// A statement of a block or of a loop.
+#[cycle(statement)]
+#[derive(Drop)]
+pub enum Statement {
+    Connect(Connect),
+    Loop(Loop),
+}
+
+/// A loop over statements: `for`, the index, `in`, its first and its last value, and what each turn brings, in the order
+/// of the text. The span goes from the word `for` to the `;` behind `end for`.
+#[cycle(statement)]
+#[derive(Drop)]
+pub struct Loop {
+    pub index: Ident,
+    pub low: Expr,
+    pub high: Expr,
+    pub body: List<Statement>,
     pub span: Span,
 }
 
@@ -175,13 +195,13 @@ impl ClassTree {
         }
     }
 
-    /// The connect statements of a block; a package and an enumeration have none.
-    #[tactic(auto, unfolding(crate::specs::Parts::connects_of))]
-    pub fn connects(&self) -> &[Connect]
-        ensures { result.now ≡ spec.connects_of self.now }
+    /// The statements of a block; a package and an enumeration have none.
+    #[tactic(auto, unfolding(crate::specs::Parts::statements_of))]
+    pub fn statements(&self) -> &[Statement]
+        ensures { result.now ≡ spec.statements_of self.now }
     {
         match self {
-            ClassTree::Block { connects, .. } => connects.items(),
+            ClassTree::Block { statements, .. } => statements.items(),
             ClassTree::Package { .. } | ClassTree::Enumeration { .. } => &[],
         }
     }

@@ -4,14 +4,17 @@
 mod class;
 mod copy;
 mod expr;
-mod kind;
+mod law;
 mod literal;
 mod name;
+mod terminal;
 
 pub use class::{
-    ClassTree, Closing, Connect, Dim, FileTree, Item, Modifier, Part, Prefix, Ref, Sub,
+    ClassTree, Closing, Connect, Dim, FileTree, Item, Loop, Modifier, Part, Prefix, Ref, Statement,
+    Sub,
 };
 pub use expr::{Expr, Node, Op};
-pub use kind::{Kind, kind_of};
+pub use law::formed_is_proper;
 pub use literal::{integer, string};
 pub use name::{Ident, Name};
+pub use terminal::{Terminal, terminal_of};

@@ -1,37 +1,15 @@
--- What is kept of the files, and of the classes of their items.
-use Rattle.std.specs.Prelude.{◌≡◌, ◌<◌, ◌+◌, ◌^◌, ℕ, Bool, List, [], ◌∷◌, map, length, Option, Some, Vec, slice_get}
+-- What is kept of the classes of items.
+use Rattle.std.specs.Prelude.{◌≡◌, ℕ, Bool, List, map, length, Option, Some, Vec, slice_get}
 use Rattle.std.specs.declared.alloc.Global.{Global}
 use Rattle.cdl_tree.specs.declared.class.FileTree.{FileTree}
 use Rattle.cdl_tree.specs.declared.class.Item.{Item}
 use Rattle.cdl_tree.specs.Parts.{items_of}
 use Rattle.cdl_classes.specs.declared.found.Found.{Found}
-use Rattle.cdl_classes.specs.declared.gather.Classes.{Classes}
 use Rattle.cdl_classes.specs.declared.item_classes.Asked.{Asked}
 use Rattle.cdl_classes.specs.declared.item_classes.Asked.TheVariants as asked
-use Rattle.cdl_classes.specs.declared.scopes.Outwards.{Outwards}
-use Rattle.cdl_classes.specs.Classes.{Declared, declared}
-use Rattle.cdl_classes.specs.Lookup.{member_names}
+use Rattle.cdl_scopes.specs.Classes.{Declared, declared}
 use Rattle.cdl_classes.specs.Rules.{class_of, is_missing, is_unsupported}
 use Rattle.cdl_classes.specs.Verdict.{IsUnbroken}
-use Rattle.cdl_classes.specs.inner.Known.{Known}
-use Rattle.cdl_classes.specs.inner.Scopes.{AreOutwards}
-
--- the declared names: each class, and the names in it
-abbrev pub names_in : Declared → ℕ
-names_in d = 1 + length (member_names d.tree)
-
-abbrev pub names_of : List Declared → ℕ
-names_of [] = 0
-names_of (d ∷ ds) = names_in d + names_of ds
-
-abbrev pub name_count : List FileTree → ℕ
-name_count files = names_of (declared files)
-
--- the declared classes of these files are kept, with their scopes, and their names can be counted
-pub record AreKept (files : List FileTree) (all : Classes) (os : List Outwards) : Type 0 where
-  pub known : Known files all
-  pub outwards : AreOutwards files all os
-  pub few : name_count files < 2 ^ 32
 
 -- what the class names of these items of the class of this number mean
 abbrev pub classes_of : List Declared → ℕ → List Item → List (Option Found)

@@ -3,8 +3,8 @@ use Rattle.std.specs.Prelude.{◌≡◌, ℕ, List, [], ◌∷◌, ◌++◌, len
 use Rattle.std.specs.declared.alloc.Global.{Global}
 use Rattle.std.specs.BTreeMap.{BTreeMap}
 use Rattle.cdl_source.specs.declared.place.Place.{Place}
-use Rattle.cdl_classes.specs.Classes.{Full, same_full}
-use Rattle.cdl_classes.specs.inner.Numbered.{entry}
+use Rattle.cdl_scopes.specs.Classes.{Full, same_full}
+use Rattle.cdl_scopes.specs.Numbered.{entry}
 use Rattle.cdl_classes.specs.Places.{sooner, latest}
 use Rattle.cdl_classes.specs.Rules.{Named}
 

@@ -6,8 +6,9 @@ use Rattle.cdl_source.specs.declared.place.Place.{Place}
 use Rattle.cdl_source.specs.declared.rules.TheConstants.{NO_SUCH_BLOCK, NOT_BUILT}
 use Rattle.cdl_tree.specs.declared.class.ClassTree.{ClassTree}
 use Rattle.cdl_tree.specs.declared.class.FileTree.{FileTree}
-use Rattle.cdl_classes.specs.Classes.{declared}
-use Rattle.cdl_classes.specs.Table.{cut, block_of as block_named}
+use Rattle.cdl_scopes.specs.Classes.{declared}
+use Rattle.cdl_classes.specs.Table.{block_of as block_named}
+use Rattle.cdl_scopes.specs.Classes.{cut}
 use Rattle.cdl_classes.specs.Verdict.{IsUnbroken, BreaksFirst}
 use Rattle.cdl_table.specs.declared.column.Column.{Column}
 use Rattle.cdl_command.specs.Texts.{Contents, Holds, FirstHold, HaveTrees, BreaksText}

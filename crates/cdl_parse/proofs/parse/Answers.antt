@@ -1,5 +1,5 @@
 use Rattle.std.proofs.Common.{inl, inr, refl, arith}
-use Rattle.cdl_parse.specs.Verdict.{word_of}
+use Rattle.cdl_reading.specs.Reading.{word_of}
 use Rattle.cdl_parse.proofs.Top.{found_law, only_law, differs_law, none_law, misnamed_law, place_law, at_tokens}
 use Rattle.cdl_parse.proofs.parse.Goals as goal
 

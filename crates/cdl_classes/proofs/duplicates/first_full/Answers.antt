@@ -1,11 +1,11 @@
 use Rattle.std.proofs.Common.{◌≡◌, ◌∙◌, [], List, None, take, length, ap, arith}
-use Rattle.cdl_classes.specs.Classes.{Declared, declared}
-use Rattle.cdl_classes.specs.inner.Gathered.{IsShown}
+use Rattle.cdl_scopes.specs.Classes.{Declared, declared}
+use Rattle.cdl_scopes.specs.Gathered.{IsShown}
 use Rattle.cdl_classes.specs.Places.{least}
 use Rattle.cdl_classes.specs.Rules.{named_of, named_in, twice_from}
-use Rattle.cdl_classes.proofs.Lists.{zip_length}
-use Rattle.cdl_classes.proofs.Listing.{listed_at}
-use Rattle.cdl_classes.proofs.Walk.{take_whole}
+use Rattle.cdl_scopes.proofs.Lists.{zip_length}
+use Rattle.cdl_scopes.proofs.Listing.{listed_at}
+use Rattle.cdl_scopes.proofs.Walk.{take_whole}
 use Rattle.cdl_classes.proofs.TwiceClasses.{compose, step_as, named_more}
 use Rattle.cdl_classes.proofs.duplicates.first_full.Goals as goal
 

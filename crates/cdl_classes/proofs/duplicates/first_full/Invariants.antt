@@ -1,7 +1,7 @@
 use Rattle.std.proofs.Common.{◌≡◌, [], None, take}
-use Rattle.cdl_classes.specs.Classes.{declared}
-use Rattle.cdl_classes.specs.Lookup.{library}
-use Rattle.cdl_classes.specs.inner.Gathered.{IsGathered}
+use Rattle.cdl_scopes.specs.Classes.{declared}
+use Rattle.cdl_scopes.specs.Lookup.{library}
+use Rattle.cdl_scopes.specs.Gathered.{IsGathered}
 use Rattle.cdl_classes.specs.inner.Marks.{Marks}
 use Rattle.cdl_classes.specs.Places.{least}
 use Rattle.cdl_classes.specs.Rules.{named_of, twice_from}

@@ -1,12 +1,13 @@
 use Rattle.std.proofs.Common.{◌≡◌, ◌∙◌, ◌+◌, [], List, Option, None, drop, length, sym, ap, arith}
 use Rattle.cdl_source.specs.declared.place.Place.{Place}
-use Rattle.cdl_classes.specs.Classes.{Declared, declared}
-use Rattle.cdl_classes.specs.inner.Gathered.{IsShown}
+use Rattle.cdl_scopes.specs.Classes.{Declared, declared}
+use Rattle.cdl_scopes.specs.Gathered.{IsShown}
 use Rattle.cdl_classes.specs.Places.{least}
 use Rattle.cdl_classes.specs.Rules.{named_of, twice_from, again_of}
-use Rattle.cdl_classes.proofs.Lists.{zip_length}
-use Rattle.cdl_classes.proofs.Items.{least-append, none_dropped}
-use Rattle.cdl_classes.proofs.Listing.{listed_at}
+use Rattle.cdl_scopes.proofs.Lists.{zip_length}
+use Rattle.cdl_classes.proofs.Items.{least-append}
+use Rattle.cdl_scopes.proofs.Lists.{none_dropped}
+use Rattle.cdl_scopes.proofs.Listing.{listed_at}
 use Rattle.cdl_classes.proofs.TwiceClasses.{next_own}
 use Rattle.cdl_classes.proofs.duplicates.first_twice.Goals as goal
 

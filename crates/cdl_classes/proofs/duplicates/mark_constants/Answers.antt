@@ -1,9 +1,9 @@
 use Rattle.std.proofs.Common.{◌≡◌, ◌∙◌, ◌++◌, ◌∷◌, [], Some, map, take, ap, refl, arith}
 use Rattle.std.specs.List.{slice_get}
 use Rattle.std.proofs.lemmas.Option.{slice_get_read}
-use Rattle.cdl_classes.specs.Classes.{full}
+use Rattle.cdl_scopes.specs.Classes.{full}
 use Rattle.cdl_classes.specs.Rules.{Named, place, constant_named}
-use Rattle.cdl_classes.proofs.Walk.{take_whole}
+use Rattle.cdl_scopes.proofs.Walk.{take_whole}
 use Rattle.cdl_classes.proofs.TwiceClasses.{compose, one_step, step_as, constants_more, name_is}
 use Rattle.cdl_classes.proofs.duplicates.mark_constants.Goals as goal
 

@@ -1,6 +1,6 @@
 use Rattle.std.proofs.Common.{◌≡◌, ◌++◌, List, Some, map, take}
 use Rattle.std.specs.List.{slice_get}
-use Rattle.cdl_classes.specs.Classes.{Full, Declared, full}
+use Rattle.cdl_scopes.specs.Classes.{Full, Declared, full}
 use Rattle.cdl_classes.specs.inner.Marks.{Marks}
 use Rattle.cdl_classes.specs.Places.{least}
 use Rattle.cdl_classes.specs.Rules.{Named, constant_named, twice_from}

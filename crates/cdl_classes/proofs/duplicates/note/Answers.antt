@@ -4,7 +4,7 @@ use Rattle.std.specs.Map.{lookup}
 use Rattle.std.proofs.lemmas.Option.{slice_get_read}
 use Rattle.cdl_source.specs.declared.place.Place.{Place}
 use Rattle.cdl_classes.specs.Places.{sooner}
-use Rattle.cdl_classes.proofs.Entries.{at, lookup-insert}
+use Rattle.cdl_scopes.proofs.Entries.{at, lookup-insert}
 use Rattle.cdl_classes.proofs.MarkLaws.{noted}
 use Rattle.cdl_classes.proofs.duplicates.note.Goals as goal
 

@@ -1,5 +1,5 @@
 use Rattle.std.proofs.Common.{◌≡◌, ◌++◌, map, drop}
-use Rattle.cdl_classes.specs.Classes.{text_of}
+use Rattle.cdl_scopes.specs.Classes.{text_of}
 use Rattle.cdl_classes.specs.Found.{joined, pointed}
 use Rattle.cdl_classes.proofs.found.joined.Given as goal
 

@@ -2,13 +2,13 @@ use Rattle.std.proofs.Common.{◌≡◌, ◌∙◌, ◌+◌, List, Option, Some,
 use Rattle.std.specs.List.{slice_get}
 use Rattle.std.proofs.lemmas.Option.{slice_get_read}
 use Rattle.cdl_source.specs.declared.place.Place.{Place}
-use Rattle.cdl_classes.specs.declared.gather.Class.{Class}
-use Rattle.cdl_classes.specs.Classes.{Declared, declared}
-use Rattle.cdl_classes.specs.inner.Gathered.{IsShown}
+use Rattle.cdl_scopes.specs.declared.gather.Class.{Class}
+use Rattle.cdl_scopes.specs.Classes.{Declared, declared}
+use Rattle.cdl_scopes.specs.Gathered.{IsShown}
 use Rattle.cdl_classes.specs.Places.{least}
 use Rattle.cdl_classes.specs.Rules.{taken_of}
-use Rattle.cdl_classes.proofs.Lists.{zip_at, zip_length}
-use Rattle.cdl_classes.proofs.Items.{none_dropped}
+use Rattle.cdl_scopes.proofs.Lists.{zip_at, zip_length}
+use Rattle.cdl_scopes.proofs.Lists.{none_dropped}
 use Rattle.cdl_classes.proofs.TakenClasses.{next_taken}
 use Rattle.cdl_classes.proofs.free_names.first_taken.Goals as goal
 

@@ -1,4 +1,4 @@
-use Rattle.cdl_classes.proofs.Needs.{some_child, not_both}
+use Rattle.cdl_scopes.proofs.Needs.{some_child, not_both}
 use Rattle.cdl_classes.proofs.free_names.has_names.Goals as goal
 
 pub returns-clause-some : goal.returns-clause-some

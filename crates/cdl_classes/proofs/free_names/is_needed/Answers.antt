@@ -1,6 +1,6 @@
 use Rattle.std.proofs.Common.{◌∙◌, sym, inl, inr}
 use Rattle.std.proofs.lemmas.Bool.{cases_Bool}
-use Rattle.cdl_classes.proofs.Needs.{needed_some, needed_none, past}
+use Rattle.cdl_scopes.proofs.Needs.{needed_some, needed_none, past}
 use Rattle.cdl_classes.proofs.free_names.is_needed.Goals as goal
 
 pub returns-in-Some : goal.returns-in-Some

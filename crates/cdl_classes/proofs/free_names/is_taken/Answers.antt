@@ -1,9 +1,10 @@
 use Rattle.std.proofs.Common.{◌≡◌, ◌∙◌, ◌++◌, ◌∷◌, [], sym, ap, true, false, Option, is_some}
-use Rattle.cdl_kinds.specs.declared.value.ValueType.{ValueType}
-use Rattle.cdl_classes.specs.Classes.{declared}
-use Rattle.cdl_classes.specs.Lookup.{in_library}
-use Rattle.cdl_classes.specs.Rules.{is_needed, is_type}
-use Rattle.cdl_classes.proofs.Needs.{marked, unneeded, unnumbered_up, child_fresh, taken_inside, taken_package, taken_needed, taken_type}
+use Rattle.cdl_values.specs.declared.value.ValueType.{ValueType}
+use Rattle.cdl_scopes.specs.Classes.{declared}
+use Rattle.cdl_scopes.specs.Lookup.{in_library}
+use Rattle.cdl_classes.specs.Rules.{is_type}
+use Rattle.cdl_scopes.specs.Lookup.{is_needed}
+use Rattle.cdl_scopes.proofs.Needs.{marked, unneeded, unnumbered_up, child_fresh, taken_inside, taken_package, taken_needed, taken_type}
 use Rattle.cdl_classes.proofs.free_names.is_taken.Goals as goal
 
 pub returns-then-is_marked : goal.returns-then-is_marked

@@ -4,7 +4,7 @@ use Rattle.cdl_source.specs.declared.place.Place.{Place}
 use Rattle.cdl_tree.specs.declared.name.Ident.{Ident}
 use Rattle.cdl_tree.specs.declared.class.Item.{Item}
 use Rattle.cdl_tree.specs.Parts.{class_name, items_of}
-use Rattle.cdl_classes.specs.Classes.{declared, full}
+use Rattle.cdl_scopes.specs.Classes.{declared, full}
 use Rattle.cdl_classes.specs.Places.{least}
 use Rattle.cdl_classes.specs.Rules.{place, is_taken, if_broken, taken_constants}
 use Rattle.cdl_classes.proofs.TakenClasses.{taken_package_class}

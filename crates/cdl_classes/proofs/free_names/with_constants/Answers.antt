@@ -1,10 +1,10 @@
 use Rattle.std.proofs.Common.{◌≡◌, ◌∙◌, ◌+◌, List, Bool, Option, false, drop, sym, ap, arith}
 use Rattle.cdl_source.specs.declared.place.Place.{Place}
 use Rattle.cdl_tree.specs.declared.class.Item.{Item}
-use Rattle.cdl_classes.specs.Classes.{declared}
+use Rattle.cdl_scopes.specs.Classes.{declared}
 use Rattle.cdl_classes.specs.Places.{least}
 use Rattle.cdl_classes.specs.Rules.{place, is_taken, if_broken, taken_constants}
-use Rattle.cdl_classes.proofs.Items.{none_dropped}
+use Rattle.cdl_scopes.proofs.Lists.{none_dropped}
 use Rattle.cdl_classes.proofs.TakenClasses.{next_constant}
 use Rattle.cdl_classes.proofs.free_names.with_constants.Goals as goal
 

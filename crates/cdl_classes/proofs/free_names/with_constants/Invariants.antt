@@ -1,10 +1,10 @@
 use Rattle.std.proofs.Common.{◌≡◌, List, Some, drop}
 use Rattle.std.specs.List.{slice_get}
 use Rattle.cdl_tree.specs.declared.class.FileTree.{FileTree}
-use Rattle.cdl_classes.specs.Classes.{Full, declared}
-use Rattle.cdl_classes.specs.Lookup.{library}
-use Rattle.cdl_classes.specs.inner.Gathered.{IsGathered}
-use Rattle.cdl_classes.specs.inner.Scopes.{AreInLibrary}
+use Rattle.cdl_scopes.specs.Classes.{Full, declared}
+use Rattle.cdl_scopes.specs.Lookup.{library}
+use Rattle.cdl_scopes.specs.Gathered.{IsGathered}
+use Rattle.cdl_scopes.specs.Outwards.{AreInLibrary}
 use Rattle.cdl_classes.specs.Places.{least}
 use Rattle.cdl_classes.specs.Rules.{taken_constants}
 use Rattle.cdl_classes.proofs.free_names.with_constants.Given as goal

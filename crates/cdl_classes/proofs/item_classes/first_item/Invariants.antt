@@ -1,5 +1,5 @@
 use Rattle.std.proofs.Common.{◌≡◌, drop, None}
-use Rattle.cdl_classes.specs.Classes.{declared}
+use Rattle.cdl_scopes.specs.Classes.{declared}
 use Rattle.cdl_classes.specs.Places.{least}
 use Rattle.cdl_classes.specs.Rules.{places_from}
 use Rattle.cdl_classes.specs.inner.Kept.{test_of}

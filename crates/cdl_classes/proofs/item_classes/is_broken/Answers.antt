@@ -1,6 +1,6 @@
 use Rattle.std.proofs.Common.{Option, sym, subst}
 use Rattle.cdl_classes.specs.declared.found.Found.{Found}
-use Rattle.cdl_classes.specs.Classes.{declared, parts_of}
+use Rattle.cdl_scopes.specs.Classes.{declared, parts_of}
 use Rattle.cdl_classes.specs.Rules.{IsKnown}
 use Rattle.cdl_classes.proofs.Items.{known_meaning}
 use Rattle.cdl_classes.proofs.item_classes.is_broken.Goals as goal

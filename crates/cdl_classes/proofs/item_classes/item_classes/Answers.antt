@@ -1,7 +1,7 @@
 use Rattle.std.proofs.Common.{List, Option, Vec, length, sym, ap, subst, arith, length-append}
 use Rattle.std.specs.declared.alloc.Global.{Global}
 use Rattle.cdl_classes.specs.declared.found.Found.{Found}
-use Rattle.cdl_classes.specs.Classes.{declared}
+use Rattle.cdl_scopes.specs.Classes.{declared}
 use Rattle.cdl_classes.proofs.ItemClasses.{Rows, rows_more}
 use Rattle.cdl_classes.proofs.item_classes.item_classes.Goals as goal
 

@@ -1,5 +1,5 @@
 use Rattle.std.proofs.Common.{◌≡◌, length}
-use Rattle.cdl_classes.specs.Classes.{declared}
+use Rattle.cdl_scopes.specs.Classes.{declared}
 use Rattle.cdl_classes.proofs.ItemClasses.{Rows}
 use Rattle.cdl_classes.proofs.item_classes.item_classes.Given as goal
 

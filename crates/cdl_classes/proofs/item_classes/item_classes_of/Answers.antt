@@ -1,8 +1,8 @@
 use Rattle.std.proofs.Common.{◌∙◌, ◌++◌, ◌∷◌, [], Option, List, map, ap, arith}
 use Rattle.cdl_classes.specs.declared.found.Found.{Found}
-use Rattle.cdl_classes.specs.Classes.{declared}
+use Rattle.cdl_scopes.specs.Classes.{declared}
 use Rattle.cdl_classes.specs.Rules.{class_of}
-use Rattle.cdl_classes.proofs.Walk.{take_whole}
+use Rattle.cdl_scopes.proofs.Walk.{take_whole}
 use Rattle.cdl_classes.proofs.ItemClasses.{mapped_more}
 use Rattle.cdl_classes.proofs.item_classes.item_classes_of.Goals as goal
 

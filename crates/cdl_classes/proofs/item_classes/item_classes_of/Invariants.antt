@@ -1,5 +1,5 @@
 use Rattle.std.proofs.Common.{◌≡◌, map, take}
-use Rattle.cdl_classes.specs.Classes.{declared}
+use Rattle.cdl_scopes.specs.Classes.{declared}
 use Rattle.cdl_classes.specs.Rules.{class_of}
 use Rattle.cdl_classes.proofs.item_classes.item_classes_of.Given as goal
 

@@ -1,7 +1,7 @@
 use Rattle.std.proofs.Common.{◌≡◌, ◌∙◌, Option, None, List, map, get_or, length, ap, arith}
 use Rattle.std.proofs.lemmas.List.{length-map}
 use Rattle.cdl_classes.specs.declared.found.Found.{Found}
-use Rattle.cdl_classes.specs.Classes.{declared}
+use Rattle.cdl_scopes.specs.Classes.{declared}
 use Rattle.cdl_classes.specs.Rules.{class_of}
 use Rattle.cdl_classes.proofs.ItemClasses.{mapped_or}
 use Rattle.cdl_classes.proofs.item_classes.with_items.Goals as goal

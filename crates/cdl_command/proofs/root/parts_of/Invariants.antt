@@ -1,5 +1,5 @@
 use Rattle.std.proofs.Common.{◌≡◌, take}
-use Rattle.cdl_classes.specs.Classes.{declared}
+use Rattle.cdl_scopes.specs.Classes.{declared}
 use Rattle.cdl_command.specs.Roots.{parts_in}
 use Rattle.cdl_command.proofs.root.parts_of.Given as goal
 

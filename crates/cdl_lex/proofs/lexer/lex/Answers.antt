@@ -1,7 +1,7 @@
 use Rattle.std.proofs.Common.{◌≤◌, length, refl, arith}
 use Rattle.cdl_lex.specs.Splits.{Splits}
 use Rattle.cdl_lex.proofs.Continues.{splits_once, stuck_within}
-use Rattle.cdl_lex.proofs.Places.{tokens_lie, tokens_rise, tokens_spelled}
+use Rattle.cdl_lex.proofs.Places.{tokens_lie, tokens_rise, are_tokens}
 use Rattle.cdl_lex.proofs.First.{NoneBelow, below_2, below_3, below_4, below_5, below_6, below_7, breaks_none, first_1, first_2, first_3, first_4, first_5, first_6, short, fit}
 use Rattle.cdl_lex.proofs.lexer.lex.Goals as goal
 
@@ -17,7 +17,7 @@ not_utf8-requires c =
 pub returns-in-Some-not_utf8-clause-refused : goal.returns-in-Some-not_utf8-clause-refused
 returns-in-Some-not_utf8-clause-refused c =
     let n2 : NoneBelow c.args.bytes.now 2 = below_2 c.args.bytes.now c.in_default.ensures in
-    rw c.broken-in-Some-not_utf8.ensures (refl, first_2 c.args.bytes.now c.in-Some-not_utf8.at n2 c.in-Some-not_utf8.ensures)
+    rw c.broken-in-Some-not_utf8.ensures (refl, first_2 c.args.bytes.now c.in-Some-not_utf8.at n2 c.in-Some-not_utf8.ensures.first)
 
 pub split-requires : goal.split-requires
 split-requires c =
@@ -33,7 +33,7 @@ overflow_cast-at c =
 pub returns-in-Stuck-clause-refused : goal.returns-in-Stuck-clause-refused
 returns-in-Stuck-clause-refused c =
     let n2 : NoneBelow c.args.bytes.now 2 = below_2 c.args.bytes.now c.in_default.ensures in
-    let n3 : NoneBelow c.args.bytes.now 3 = below_3 c.args.bytes.now n2 c.in_default-not_utf8.ensures in
+    let n3 : NoneBelow c.args.bytes.now 3 = below_3 c.args.bytes.now n2 c.in_default-not_utf8.ensures.first in
     rw c.broken-in-Stuck.ensures (refl, first_3 c.args.bytes.now c.in-Stuck.at n3 (rw c.in-Stuck.is at c.in_ok-items.ensures))
 
 pub past_limits-requires-clause-within : goal.past_limits-requires-clause-within
@@ -69,7 +69,7 @@ too_many-requires-clause-rise c =
 pub returns-in-Some-past_limits-clause-refused : goal.returns-in-Some-past_limits-clause-refused
 returns-in-Some-past_limits-clause-refused c =
     let n2 : NoneBelow c.args.bytes.now 2 = below_2 c.args.bytes.now c.in_default.ensures in
-    let n3 : NoneBelow c.args.bytes.now 3 = below_3 c.args.bytes.now n2 c.in_default-not_utf8.ensures in
+    let n3 : NoneBelow c.args.bytes.now 3 = below_3 c.args.bytes.now n2 c.in_default-not_utf8.ensures.first in
     let s : Splits c.args.bytes.now c.in-Whole.items = rw c.in-Whole.is at c.in_ok-items.ensures in
     let n4 : NoneBelow c.args.bytes.now 4 = below_4 c.args.bytes.now c.in-Whole.items n3 s in
     rw c.broken-in-Some-past_limits.ensures (refl, first_4 c.args.bytes.now c.in-Whole.items c.in-Some-past_limits.at n4 s (rw c.items-2.ensures at c.in-Some-past_limits.ensures))
@@ -77,7 +77,7 @@ returns-in-Some-past_limits-clause-refused c =
 pub returns-in-Some-too_deep-clause-refused : goal.returns-in-Some-too_deep-clause-refused
 returns-in-Some-too_deep-clause-refused c =
     let n2 : NoneBelow c.args.bytes.now 2 = below_2 c.args.bytes.now c.in_default.ensures in
-    let n3 : NoneBelow c.args.bytes.now 3 = below_3 c.args.bytes.now n2 c.in_default-not_utf8.ensures in
+    let n3 : NoneBelow c.args.bytes.now 3 = below_3 c.args.bytes.now n2 c.in_default-not_utf8.ensures.first in
     let s : Splits c.args.bytes.now c.in-Whole.items = rw c.in-Whole.is at c.in_ok-items.ensures in
     let n4 : NoneBelow c.args.bytes.now 4 = below_4 c.args.bytes.now c.in-Whole.items n3 s in
     let n5 : NoneBelow c.args.bytes.now 5 = below_5 c.args.bytes.now c.in-Whole.items n4 s (rw c.items-2.ensures at c.in_default-past_limits.ensures) in
@@ -86,46 +86,35 @@ returns-in-Some-too_deep-clause-refused c =
 pub returns-in-Some-too_many-clause-refused : goal.returns-in-Some-too_many-clause-refused
 returns-in-Some-too_many-clause-refused c =
     let n2 : NoneBelow c.args.bytes.now 2 = below_2 c.args.bytes.now c.in_default.ensures in
-    let n3 : NoneBelow c.args.bytes.now 3 = below_3 c.args.bytes.now n2 c.in_default-not_utf8.ensures in
+    let n3 : NoneBelow c.args.bytes.now 3 = below_3 c.args.bytes.now n2 c.in_default-not_utf8.ensures.first in
     let s : Splits c.args.bytes.now c.in-Whole.items = rw c.in-Whole.is at c.in_ok-items.ensures in
     let n4 : NoneBelow c.args.bytes.now 4 = below_4 c.args.bytes.now c.in-Whole.items n3 s in
     let n5 : NoneBelow c.args.bytes.now 5 = below_5 c.args.bytes.now c.in-Whole.items n4 s (rw c.items-2.ensures at c.in_default-past_limits.ensures) in
     let n6 : NoneBelow c.args.bytes.now 6 = below_6 c.args.bytes.now c.in-Whole.items n5 s (rw c.items-3.ensures at c.in_default-too_deep.ensures) in
     rw c.broken-in-Some-too_many.ensures (refl, first_6 c.args.bytes.now c.in-Whole.items c.in-Some-too_many.at n6 s (rw c.items-4.ensures at c.in-Some-too_many.ensures))
 
-pub new-requires-clause-limit : goal.new-requires-clause-limit
-new-requires-clause-limit c =
-    rw (c.in_ok-push.ensures.ok, c.new-text.ensures) (short c.args.bytes.now c.in_default.ensures)
-
-pub new-requires-clause-within : goal.new-requires-clause-within
-new-requires-clause-within c =
+pub new-requires : goal.new-requires
+new-requires c =
+    let n2 : NoneBelow c.args.bytes.now 2 = below_2 c.args.bytes.now c.in_default.ensures in
+    let n3 : NoneBelow c.args.bytes.now 3 = below_3 c.args.bytes.now n2 c.in_default-not_utf8.ensures.first in
     let s : Splits c.args.bytes.now c.in-Whole.items = rw c.in-Whole.is at c.in_ok-items.ensures in
-    rw (c.in_ok-push.ensures.ok, c.new-text.ensures) (tokens_lie c.args.bytes.now c.in-Whole.items s)
-
-pub new-requires-clause-spelled : goal.new-requires-clause-spelled
-new-requires-clause-spelled c =
-    let s : Splits c.args.bytes.now c.in-Whole.items = rw c.in-Whole.is at c.in_ok-items.ensures in
-    rw (c.in_ok-push.ensures.ok, c.new-text.ensures) (tokens_spelled c.args.bytes.now c.in-Whole.items s)
-
-pub new-requires-clause-fits : goal.new-requires-clause-fits
-new-requires-clause-fits c =
-    rw (c.in_ok-push.ensures.ok, c.new-text.ensures) (fit c.args.bytes.now c.in-Whole.items (rw c.items-2.ensures at c.in_default-past_limits.ensures))
+    let n4 : NoneBelow c.args.bytes.now 4 = below_4 c.args.bytes.now c.in-Whole.items n3 s in
+    let n5 : NoneBelow c.args.bytes.now 5 = below_5 c.args.bytes.now c.in-Whole.items n4 s (rw c.items-2.ensures at c.in_default-past_limits.ensures) in
+    let n6 : NoneBelow c.args.bytes.now 6 = below_6 c.args.bytes.now c.in-Whole.items n5 s (rw c.items-3.ensures at c.in_default-too_deep.ensures) in
+    let n7 : NoneBelow c.args.bytes.now 7 = below_7 c.args.bytes.now c.in-Whole.items n6 s (rw c.items-4.ensures at c.in_default-too_many.ensures) in
+    rw (c.in_ok-push.ensures.ok, c.new-text.ensures) (are_tokens c.args.bytes.now c.in-Whole.items (breaks_none c.args.bytes.now n7) s (short c.args.bytes.now c.in_default.ensures)
+    c.in_default-not_utf8.ensures.utf8 (fit c.args.bytes.now c.in-Whole.items (rw c.items-2.ensures at c.in_default-past_limits.ensures)))
 
 pub returns-clause-unbroken : goal.returns-clause-unbroken
 returns-clause-unbroken c =
     let n2 : NoneBelow c.args.bytes.now 2 = below_2 c.args.bytes.now c.in_default.ensures in
-    let n3 : NoneBelow c.args.bytes.now 3 = below_3 c.args.bytes.now n2 c.in_default-not_utf8.ensures in
+    let n3 : NoneBelow c.args.bytes.now 3 = below_3 c.args.bytes.now n2 c.in_default-not_utf8.ensures.first in
     let s : Splits c.args.bytes.now c.in-Whole.items = rw c.in-Whole.is at c.in_ok-items.ensures in
     let n4 : NoneBelow c.args.bytes.now 4 = below_4 c.args.bytes.now c.in-Whole.items n3 s in
     let n5 : NoneBelow c.args.bytes.now 5 = below_5 c.args.bytes.now c.in-Whole.items n4 s (rw c.items-2.ensures at c.in_default-past_limits.ensures) in
     let n6 : NoneBelow c.args.bytes.now 6 = below_6 c.args.bytes.now c.in-Whole.items n5 s (rw c.items-3.ensures at c.in_default-too_deep.ensures) in
     let n7 : NoneBelow c.args.bytes.now 7 = below_7 c.args.bytes.now c.in-Whole.items n6 s (rw c.items-4.ensures at c.in_default-too_many.ensures) in
     breaks_none c.args.bytes.now n7
-
-pub returns-clause-rise : goal.returns-clause-rise
-returns-clause-rise c =
-    let s : Splits c.args.bytes.now c.in-Whole.items = rw c.in-Whole.is at c.in_ok-items.ensures in
-    rw c.new.ensures (tokens_rise c.args.bytes.now c.in-Whole.items s)
 
 pub returns-clause-only : goal.returns-clause-only
 returns-clause-only c =

@@ -1,6 +1,6 @@
 use Rattle.std.proofs.Common.{◌≡◌, ap, arith}
 use Rattle.cdl_parse.specs.Classes.{class}
-use Rattle.cdl_parse.proofs.Turns.{deeper}
+use Rattle.cdl_reading.proofs.Turns.{deeper}
 use Rattle.cdl_parse.proofs.class.+class.Goals as goal
 
 pub returns-then-depth-eq0 : goal.returns-then-depth-eq0

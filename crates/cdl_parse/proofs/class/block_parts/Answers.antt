@@ -1,7 +1,7 @@
 use Rattle.std.proofs.Common.{rules, arith}
 use Rattle.std.proofs.lemmas.Grind.{common_steps}
 use Rattle.cdl_parse.specs.Classes.{block_parts_from}
-use Rattle.cdl_parse.proofs.Turns.{one_more, no_more}
+use Rattle.cdl_reading.proofs.Turns.{one_more, no_more}
 use Rattle.cdl_parse.proofs.class.block_parts.Goals as goal
 
 pub loop-turn-init : goal.loop-turn-init

@@ -1,6 +1,6 @@
 use Rattle.std.proofs.Common.{◌≡◌, ◌-◌}
 use Rattle.cdl_tree.specs.declared.kind.Kind.TheVariants as k
-use Rattle.cdl_parse.specs.Reading.{list_from}
+use Rattle.cdl_reading.specs.Reading.{list_from}
 use Rattle.cdl_parse.specs.Declarations.{part, reference}
 use Rattle.cdl_parse.proofs.connection.reference.Given as goal
 

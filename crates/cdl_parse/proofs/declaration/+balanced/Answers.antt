@@ -1,7 +1,7 @@
 use Rattle.std.proofs.Common.{◌≡◌, suc, ◌-◌, ap, rules, arith}
 use Rattle.std.proofs.lemmas.Grind.{common_steps}
 use Rattle.cdl_parse.specs.Declarations.{balanced, balanced_from}
-use Rattle.cdl_parse.proofs.Turns.{one_more, no_more}
+use Rattle.cdl_reading.proofs.Turns.{one_more, no_more}
 use Rattle.cdl_parse.proofs.declaration.+balanced.Goals as goal
 
 pub balanced-returns-then-depth-eq0 : goal.balanced-returns-then-depth-eq0

@@ -1,9 +1,9 @@
 use Rattle.std.proofs.Common.{rules, arith}
 use Rattle.std.proofs.lemmas.Grind.{common_steps}
 use Rattle.cdl_tree.specs.declared.kind.Kind.TheVariants as k
-use Rattle.cdl_parse.specs.Reading.{list, list_from}
+use Rattle.cdl_reading.specs.Reading.{list, list_from}
 use Rattle.cdl_parse.specs.Declarations.{dim_of, dim_list}
-use Rattle.cdl_parse.proofs.Turns.{one_more, no_more}
+use Rattle.cdl_reading.proofs.Turns.{one_more, no_more}
 use Rattle.cdl_parse.proofs.declaration.dim_list.Goals as goal
 
 pub returns-in_err-dim : goal.returns-in_err-dim

@@ -1,7 +1,7 @@
 use Rattle.std.proofs.Common.{rules, arith}
 use Rattle.std.proofs.lemmas.Grind.{common_steps}
 use Rattle.cdl_parse.specs.Classes.{file_classes, file_from}
-use Rattle.cdl_parse.proofs.Turns.{one_more, no_more}
+use Rattle.cdl_reading.proofs.Turns.{one_more, no_more}
 use Rattle.cdl_parse.proofs.file.classes.Goals as goal
 
 pub returns-in_err-found : goal.returns-in_err-found

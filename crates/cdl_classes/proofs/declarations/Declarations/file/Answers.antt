@@ -1,8 +1,8 @@
 use Rattle.std.proofs.Common.{◌∙◌, Some, ap, sym, refl, arith}
 use Rattle.std.specs.Prelude.{option_map}
 use Rattle.std.proofs.lemmas.Option.{slice_get_read}
-use Rattle.cdl_classes.specs.Classes.{Declared}
-use Rattle.cdl_classes.proofs.Kept.{kept_within, kept_at}
+use Rattle.cdl_scopes.specs.Classes.{Declared}
+use Rattle.cdl_scopes.proofs.Kept.{kept_within, kept_at}
 use Rattle.cdl_classes.proofs.declarations.Declarations.file.Goals as goal
 
 pub index-requires : goal.index-requires

@@ -5,9 +5,9 @@ use Rattle.std.proofs.lemmas.Option.{slice_get_read, same_Some}
 use Rattle.cdl_tree.specs.declared.class.ClassTree.{ClassTree}
 use Rattle.cdl_tree.specs.declared.class.FileTree.{FileTree}
 use Rattle.cdl_tree.specs.Parts.{items_of}
-use Rattle.cdl_classes.specs.Classes.{declared}
-use Rattle.cdl_classes.specs.inner.Gathered.{tree_at}
-use Rattle.cdl_classes.proofs.Kept.{kept_within, kept_at, few_items}
+use Rattle.cdl_scopes.specs.Classes.{declared}
+use Rattle.cdl_scopes.specs.Gathered.{tree_at}
+use Rattle.cdl_scopes.proofs.Kept.{kept_within, kept_at, few_items}
 use Rattle.cdl_classes.proofs.Answers.{item_at, item_some, item_none}
 use Rattle.cdl_classes.proofs.declarations.Declarations.item.Goals as goal
 

@@ -1,9 +1,9 @@
 use Rattle.std.proofs.Common.{◌≡◌, ◌∙◌, List, length, ap, arith}
 use Rattle.cdl_tree.specs.declared.class.FileTree.{FileTree}
-use Rattle.cdl_classes.specs.Classes.{declared}
-use Rattle.cdl_classes.specs.inner.Gathered.{IsShown}
-use Rattle.cdl_classes.proofs.Lists.{zip_length}
-use Rattle.cdl_classes.proofs.Meaning.{counted}
+use Rattle.cdl_scopes.specs.Classes.{declared}
+use Rattle.cdl_scopes.specs.Gathered.{IsShown}
+use Rattle.cdl_scopes.proofs.Lists.{zip_length}
+use Rattle.cdl_scopes.proofs.Meaning.{counted}
 use Rattle.cdl_classes.proofs.declarations.Declarations.len.Goals as goal
 
 pub returns-clause-count : goal.returns-clause-count

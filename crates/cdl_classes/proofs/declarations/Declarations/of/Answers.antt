@@ -1,13 +1,13 @@
 use Rattle.std.proofs.Common.{◌≡◌, ◌∙◌, ◌<◌, ◌^◌, List, Bool, [], sym, refl, subst, inl, inr, arith}
 use Rattle.cdl_tree.specs.declared.class.FileTree.{FileTree}
-use Rattle.cdl_classes.specs.declared.gather.Classes.{Classes}
-use Rattle.cdl_classes.specs.declared.scopes.Outwards.{Outwards}
-use Rattle.cdl_classes.specs.Classes.{declared}
-use Rattle.cdl_classes.specs.Lookup.{library}
+use Rattle.cdl_scopes.specs.declared.gather.Classes.{Classes}
+use Rattle.cdl_scopes.specs.declared.scopes.Outwards.{Outwards}
+use Rattle.cdl_scopes.specs.Classes.{declared}
+use Rattle.cdl_scopes.specs.Lookup.{library}
 use Rattle.cdl_classes.specs.Rules.{broken_10, broken_11}
-use Rattle.cdl_classes.specs.inner.Gathered.{IsGathered}
-use Rattle.cdl_classes.specs.inner.Kept.{AreKept, name_count}
-use Rattle.cdl_classes.specs.inner.Scopes.{AreInLibrary, AreOutwards}
+use Rattle.cdl_scopes.specs.Gathered.{IsGathered}
+use Rattle.cdl_scopes.specs.Kept.{AreKept, name_count}
+use Rattle.cdl_scopes.specs.Outwards.{AreInLibrary, AreOutwards}
 use Rattle.cdl_classes.proofs.Firstly.{first_as, none_as, free}
 use Rattle.cdl_classes.proofs.declarations.Declarations.of.Goals as goal
 
@@ -49,7 +49,7 @@ pub invariant_of-result : goal.invariant_of-result
 invariant_of-result c =
     let taken = none_as broken_11 c.args.files c.items-4.result.now c.items-4.ensures c.first_taken.result c.first_taken.ensures c.in_default.is in
     kept c.args.files c.items.result.now c.in-Ok.classes c.in-Ok-all_outwards.outwards.items c.items.ensures c.in-Ok.ensures taken
-    (few_of c.args.files c.items-5.result.now c.items-5.ensures (omega (arith, c.in-Some-count.ensures.number, c.in-Some-count.ensures.few)))
+    (few_of c.args.files c.items-5.result.now c.items-5.ensures (omega (arith, c.in-Some-count_names.ensures.number, c.in-Some-count_names.ensures.few)))
     (outwards_of c.args.files c.items-6.result.now c.in-Ok.classes c.in-Ok-all_outwards.outwards.items c.items-6.ensures c.in-Ok-all_outwards.ensures)
 
 pub returns-clause-ok : goal.returns-clause-ok

@@ -1,10 +1,10 @@
 use Rattle.std.proofs.Common.{◌∙◌, ap, sym}
 use Rattle.std.specs.Prelude.{option_and_then}
-use Rattle.cdl_classes.specs.Classes.{declared}
-use Rattle.cdl_classes.specs.declared.lookup.Sought.TheVariants as sought
+use Rattle.cdl_scopes.specs.Classes.{declared}
+use Rattle.cdl_scopes.specs.declared.lookup.Sought.TheVariants as sought
 use Rattle.cdl_classes.specs.Found.{found_of}
-use Rattle.cdl_classes.proofs.Kept.{known_as, few_as, outwards_as, same_meaning}
-use Rattle.cdl_classes.proofs.Meaning.{small}
+use Rattle.cdl_scopes.proofs.Kept.{known_as, few_as, outwards_as, same_meaning}
+use Rattle.cdl_scopes.proofs.Meaning.{small}
 use Rattle.cdl_classes.proofs.declarations.Declarations.resolve.Goals as goal
 
 pub found-requires : goal.found-requires

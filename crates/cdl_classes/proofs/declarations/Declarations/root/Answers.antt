@@ -1,11 +1,11 @@
 use Rattle.std.proofs.Common.{◌≡◌, ◌∙◌, Some, ap, sym, arith}
 use Rattle.std.proofs.lemmas.Option.{slice_get_within}
-use Rattle.cdl_classes.specs.Classes.{declared}
-use Rattle.cdl_classes.specs.Table.{cut}
+use Rattle.cdl_scopes.specs.Classes.{declared}
+use Rattle.cdl_scopes.specs.Classes.{cut}
 use Rattle.cdl_classes.proofs.Blocks.{no_name, no_first, no_place, block_at}
-use Rattle.cdl_classes.proofs.Kept.{known_as}
-use Rattle.cdl_classes.proofs.Meaning.{counted}
-use Rattle.cdl_classes.proofs.Standing.{shown_at}
+use Rattle.cdl_scopes.proofs.Kept.{known_as}
+use Rattle.cdl_scopes.proofs.Meaning.{counted}
+use Rattle.cdl_scopes.proofs.StandingLaws.{shown_at}
 use Rattle.cdl_classes.proofs.declarations.Declarations.root.Goals as goal
 
 pub returns-in_default : goal.returns-in_default

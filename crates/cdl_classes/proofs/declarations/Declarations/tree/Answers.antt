@@ -2,9 +2,9 @@ use Rattle.std.proofs.Common.{◌∙◌, List, ap, sym, refl, arith}
 use Rattle.std.specs.Prelude.{option_map}
 use Rattle.std.proofs.lemmas.Option.{slice_get_read}
 use Rattle.cdl_tree.specs.declared.class.FileTree.{FileTree}
-use Rattle.cdl_classes.specs.Classes.{Declared}
-use Rattle.cdl_classes.specs.inner.Gathered.{tree_at}
-use Rattle.cdl_classes.proofs.Kept.{kept_within, kept_at}
+use Rattle.cdl_scopes.specs.Classes.{Declared}
+use Rattle.cdl_scopes.specs.Gathered.{tree_at}
+use Rattle.cdl_scopes.proofs.Kept.{kept_within, kept_at}
 use Rattle.cdl_classes.proofs.declarations.Declarations.tree.Goals as goal
 
 pub index-requires : goal.index-requires

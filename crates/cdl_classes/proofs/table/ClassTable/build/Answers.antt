@@ -1,7 +1,7 @@
 use Rattle.std.proofs.Common.{◌≡◌, List, [], sym, refl, subst, inl, inr}
 use Rattle.cdl_source.specs.declared.place.Place.{Place}
 use Rattle.cdl_tree.specs.declared.class.FileTree.{FileTree}
-use Rattle.cdl_classes.specs.Classes.{Declared, declared}
+use Rattle.cdl_scopes.specs.Classes.{Declared, declared}
 use Rattle.cdl_classes.specs.Rules.{broken_10, broken_11, broken_12, broken_13}
 use Rattle.cdl_classes.proofs.Firstly.{first_as, none_as}
 use Rattle.cdl_classes.proofs.table.ClassTable.build.Goals as goal

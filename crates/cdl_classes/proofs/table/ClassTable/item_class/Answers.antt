@@ -4,7 +4,7 @@ use Rattle.std.proofs.lemmas.Option.{slice_get_read}
 use Rattle.cdl_tree.specs.declared.class.FileTree.{FileTree}
 use Rattle.cdl_tree.specs.declared.class.Item.{Item}
 use Rattle.cdl_classes.specs.declared.found.Found.TheVariants as it
-use Rattle.cdl_classes.specs.Classes.{declared}
+use Rattle.cdl_scopes.specs.Classes.{declared}
 use Rattle.cdl_classes.specs.Rules.{class_of}
 use Rattle.cdl_classes.specs.Table.{items_at}
 use Rattle.cdl_classes.proofs.Answers.{row_within, class_is, class_found}

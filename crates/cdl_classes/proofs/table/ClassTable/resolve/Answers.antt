@@ -1,7 +1,7 @@
 use Rattle.std.proofs.Common.{List, Option, sym, subst}
 use Rattle.cdl_tree.specs.declared.class.FileTree.{FileTree}
 use Rattle.cdl_classes.specs.declared.found.Found.{Found}
-use Rattle.cdl_classes.specs.Classes.{declared, parts_of}
+use Rattle.cdl_scopes.specs.Classes.{declared, parts_of}
 use Rattle.cdl_classes.specs.Rules.{IsKnown}
 use Rattle.cdl_classes.proofs.Items.{known_meaning}
 use Rattle.cdl_classes.proofs.table.ClassTable.resolve.Goals as goal

@@ -1,7 +1,7 @@
 use Rattle.std.proofs.Common.{◌∙◌, List, sym, subst}
 use Rattle.std.specs.Prelude.{IfSome}
 use Rattle.cdl_tree.specs.declared.class.FileTree.{FileTree}
-use Rattle.cdl_classes.specs.Classes.{declared, parts_of}
+use Rattle.cdl_scopes.specs.Classes.{declared, parts_of}
 use Rattle.cdl_classes.specs.Table.{IsValue}
 use Rattle.cdl_classes.proofs.Answers.{if_some, value_known}
 use Rattle.cdl_classes.proofs.table.ClassTable.resolve_value.Goals as goal

@@ -1,9 +1,10 @@
 use Rattle.std.proofs.Common.{◌∙◌, List, sym, subst}
 use Rattle.std.specs.Prelude.{IfSome}
 use Rattle.cdl_tree.specs.declared.class.FileTree.{FileTree}
-use Rattle.cdl_classes.specs.declared.lookup.ClassSort.TheVariants as sort
-use Rattle.cdl_classes.specs.Classes.{declared}
-use Rattle.cdl_classes.specs.Table.{IsOf, cut}
+use Rattle.cdl_scopes.specs.declared.lookup.ClassSort.TheVariants as sort
+use Rattle.cdl_scopes.specs.Classes.{declared}
+use Rattle.cdl_classes.specs.Table.{IsOf}
+use Rattle.cdl_scopes.specs.Classes.{cut}
 use Rattle.cdl_classes.proofs.Answers.{if_some, block_known}
 use Rattle.cdl_classes.proofs.table.ClassTable.root.Goals as goal
 

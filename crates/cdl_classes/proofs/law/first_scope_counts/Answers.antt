@@ -1,5 +1,0 @@
-use Rattle.cdl_classes.proofs.FirstScope.{first_scope}
-use Rattle.cdl_classes.proofs.law.first_scope_counts.Goals as goal
-
-pub returns : goal.returns
-returns c = first_scope

@@ -1,0 +1,39 @@
+use Rattle.std.proofs.Common.{rules, arith}
+use Rattle.std.proofs.lemmas.Grind.{common_steps}
+use Rattle.cdl_tree.specs.declared.terminal.Terminal.TheVariants as the
+use Rattle.cdl_reading.specs.Reading.{list, list_from}
+use Rattle.cdl_expressions.specs.Arguments.{args, arg, arg_list}
+use Rattle.cdl_reading.proofs.Turns.{one_more, no_more}
+use Rattle.cdl_expressions.proofs.argument.Arguments.list.Goals as goal
+
+pub returns-in_err-arg : goal.returns-in_err-arg
+unfolding arg_list list
+returns-in_err-arg g c = first_of (search rules, grind (arith, common_steps))
+
+pub loop-turn-init : goal.loop-turn-init
+unfolding arg_list list
+loop-turn-init g c = first_of (search rules, grind (arith, common_steps))
+
+pub returns-then-not-eat : goal.returns-then-not-eat
+unfolding list_from
+returns-then-not-eat g c =
+    let e = one_more (λ n. list_from the.Comma (arg c.args.self.now.depth (args c.args.self.now.depth)) n c.loop-turn.found c.loop-turn.tokens) _ c.loop-turn._turn c.loop-turn-test.true c.loop-turn.invariant in
+    first_of (search rules, grind (arith, common_steps))
+
+pub returns-in_err-arg-2 : goal.returns-in_err-arg-2
+unfolding list_from
+returns-in_err-arg-2 g c =
+    let e = one_more (λ n. list_from the.Comma (arg c.args.self.now.depth (args c.args.self.now.depth)) n c.loop-turn.found c.loop-turn.tokens) _ c.loop-turn._turn c.loop-turn-test.true c.loop-turn.invariant in
+    first_of (search rules, grind (arith, common_steps))
+
+pub loop-turn-preserved : goal.loop-turn-preserved
+unfolding list_from
+loop-turn-preserved g c =
+    let e = one_more (λ n. list_from the.Comma (arg c.args.self.now.depth (args c.args.self.now.depth)) n c.loop-turn.found c.loop-turn.tokens) _ c.loop-turn._turn c.loop-turn-test.true c.loop-turn.invariant in
+    first_of (search rules, grind (arith, common_steps))
+
+pub returns : goal.returns
+unfolding list_from
+returns g c =
+    let e = no_more (λ n. list_from the.Comma (arg c.args.self.now.depth (args c.args.self.now.depth)) n c.loop-turn.found c.loop-turn.tokens) _ c.loop-turn._turn c.loop-turn-test.false c.loop-turn.invariant in
+    first_of (search rules, grind (arith, common_steps))

@@ -1,8 +1,0 @@
-use Rattle.std.proofs.Common.{ap, ◌∙◌}
-use Rattle.cdl_parse.specs.Reading as spec
-use Rattle.cdl_parse.specs.Verdict.{word_of as terminals}
-use Rattle.cdl_parse.proofs.Next.{next_is}
-use Rattle.cdl_parse.proofs.cursor.Cursor.skip.Goals as goal
-
-pub returns-then-self-len : goal.returns-then-self-len
-returns-then-self-len c = next_is (terminals c.self.inside.tokens.now) c.self.inside.at ∙ ap spec.next c.self.view_is

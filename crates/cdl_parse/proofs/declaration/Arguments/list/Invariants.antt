@@ -1,8 +1,0 @@
-use Rattle.std.proofs.Common.{◌≡◌, ◌-◌}
-use Rattle.cdl_tree.specs.declared.kind.Kind.TheVariants as k
-use Rattle.cdl_parse.specs.Reading.{list_from}
-use Rattle.cdl_parse.specs.Declarations.{args, arg, arg_list}
-use Rattle.cdl_parse.proofs.declaration.Arguments.list.Given as goal
-
-abbrev pub invariant-loop-turn : goal.invariant-loop-turn
-invariant-loop-turn g l = arg_list l.self.depth (args l.self.depth) l.fn.tokens ≡ list_from k.Comma (arg l.self.depth (args l.self.depth)) (l._turn-end - l._turn) l.found l.tokens

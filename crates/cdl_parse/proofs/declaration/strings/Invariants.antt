@@ -1,6 +1,0 @@
-use Rattle.std.proofs.Common.{◌≡◌, ◌-◌}
-use Rattle.cdl_parse.specs.Declarations.{strings_from}
-use Rattle.cdl_parse.proofs.declaration.strings.Given as goal
-
-abbrev pub invariant-loop-turn : goal.invariant-loop-turn
-invariant-loop-turn l = strings_from l.fn.most l.fn.tokens ≡ strings_from (l.fn.most - l._turn) l.tokens

@@ -1,8 +1,0 @@
-use Rattle.std.proofs.Common.{◌≡◌, ◌-◌}
-use Rattle.cdl_tree.specs.declared.kind.Kind.TheVariants as k
-use Rattle.cdl_parse.specs.Reading.{ident, list_from}
-use Rattle.cdl_parse.specs.Expressions.{name}
-use Rattle.cdl_parse.proofs.expression.name.Given as goal
-
-abbrev pub invariant-loop-turn : goal.invariant-loop-turn
-invariant-loop-turn l = name l.fn.most l.fn.tokens ≡ list_from k.Period ident (l.fn.most - l._turn) l.parts l.tokens

@@ -1,0 +1,6 @@
+mod Next
+pub mod Turns
+pub mod Steps
+pub mod Alike
+pub mod Laws
+pub mod Repeats

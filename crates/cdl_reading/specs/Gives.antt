@@ -1,0 +1,19 @@
+-- What a function that parses ensures: the parser's outcome, unless memory fails. After a fault the cursor stands at its place.
+use Rattle.std.specs.Prelude.{◌≡◌, ℕ, Result, Ok, Err}
+use Rattle.std.specs.declared.alloc.Global.{Global}
+use denote.Ref.{MutBor}
+use Rattle.cdl_tree.specs.Words.{Word}
+use Rattle.cdl_reading.specs.declared.cursor.Fault.{Fault}
+use Rattle.cdl_reading.specs.declared.cursor.Fault.TheVariants.{OutOfMemory, Syntax}
+use Rattle.cdl_reading.specs.Reading.{Outcome, Parser}
+
+abbrev pub Gives : {A : Type 0} → Outcome A → Result A Fault → Word → Type 0
+Gives outcome (Ok a) new = outcome ≡ Ok (a, new)
+Gives outcome (Err OutOfMemory) new = Unit {0}
+Gives outcome (Err Syntax) new = outcome ≡ Err new
+
+-- A function value that parses as a rule does to this depth.
+pub record Nests {A : Type 0} (rule : ℕ → Parser A) (depth : ℕ) (pre : Global → MutBor Word → ℕ → Type 0)
+    (post : Global → MutBor Word → ℕ → Result A Fault → MutBor Word → Type 0) : Type 0 where
+  pub callable : (alloc : Global) (old : MutBor Word) → pre alloc old depth
+  pub gives : (alloc : Global) (old new : MutBor Word) (r : Result A Fault) → post alloc old depth r new → Gives (rule depth old.now) r new.now

@@ -1,0 +1,11 @@
+// What holds of trees.
+ghost use Rattle.std.specs.Prelude.{◌≡◌, true};
+ghost use Rattle.cdl_tree.specs.declared.expr.Expr.{Expr};
+ghost use Rattle.cdl_tree.specs.Proper.{is_proper};
+ghost use Rattle.cdl_tree.specs.Formed.{is_formed};
+
+/// A law, which computes nothing: a formed expression is proper.
+#[tactic(auto, using(crate::proofs::Evaluated::formed_proper))]
+pub fn formed_is_proper()
+    ensures { (e : Expr) → is_formed e ≡ true → is_proper e ≡ true }
+{}
