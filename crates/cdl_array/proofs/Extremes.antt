@@ -2,8 +2,7 @@
 use Rattle.std.proofs.Common.{ℕ, suc, ◌+◌, ◌≡◌, ◌<◌, refl, ℤ, List, [], ◌∷◌, length, get_or, drop, map, add-one, arith, sym, ap, ◌∙◌}
 use Rattle.std.proofs.Math.Seq.{drop-cons}
 use Rattle.std.proofs.lemmas.Int.{ints}
-use Rattle.cdl_kinds.specs.Meaning.Integers.{greater_of}
-use Rattle.cdl_kinds.specs.Meaning.Reals.{greatest}
+use Rattle.cdl_values.specs.Extremes.{greater_of, greatest}
 
 greater_assoc : (a b c : ℤ) → greater_of a (greater_of b c) ≡ greater_of (greater_of a b) c
 greater_assoc a b c = grind (arith, ints)

@@ -4,8 +4,8 @@ use Rattle.std.proofs.lemmas.Bool.Decides.{nat_tests}
 use Rattle.std.proofs.lemmas.List.{take_all}
 use Rattle.std.proofs.lemmas.Nat.{mul-add-lt}
 use Rattle.std.proofs.Math.Nat.{mul_assoc, mul-le-mul_left}
-use Rattle.cdl_kinds.specs.Values.{IsArray, items_of}
-use Rattle.cdl_kinds.specs.declared.value.Array.{Array}
+use Rattle.cdl_values.specs.Values.{IsArray, items_of}
+use Rattle.cdl_values.specs.declared.value.Array.{Array}
 use Rattle.cdl_array.specs.Parts.{place, is_within}
 
 chosen : (b : Bool) (m k : ℕ) → cond b (Some m) None ≡ Some k → (b ≡ true) × (m ≡ k)

@@ -4,16 +4,16 @@ use Rattle.std.specs.Prelude.{unsigned_abs, slice_get, nat_le}
 use Rattle.std.specs.List.{All}
 use Rattle.std.proofs.lemmas.Int.{ints}
 use Rattle.cdl_decimal.specs.Near.{InRange, in_range}
-use Rattle.cdl_kinds.specs.Values.{IsArray, IsOf, items_of}
-use Rattle.cdl_kinds.specs.declared.value.Array.{Array}
-use Rattle.cdl_kinds.specs.declared.value.Value.{Value}
-use Rattle.cdl_kinds.specs.declared.value.Value.TheVariants.{Integer, Real}
-use Rattle.cdl_kinds.specs.declared.value.ValueType.{ValueType}
-use Rattle.cdl_kinds.specs.declared.value.ValueType.TheVariants.{Integer as IntegerType, Real as RealType}
+use Rattle.cdl_values.specs.Values.{IsArray, IsOf, items_of}
+use Rattle.cdl_values.specs.declared.value.Array.{Array}
+use Rattle.cdl_values.specs.declared.value.Value.{Value}
+use Rattle.cdl_values.specs.declared.value.Value.TheVariants.{Integer, Real}
+use Rattle.cdl_values.specs.declared.value.ValueType.{ValueType}
+use Rattle.cdl_values.specs.declared.value.ValueType.TheVariants.{Integer as IntegerType, Real as RealType}
 use Rattle.std.proofs.lemmas.List.{length-replicate, length-drop, length-take-le, take-append-drop}
 use Rattle.std.proofs.lemmas.List.Elements.{All-nil, All-cons, All-head, All-tail, All-replicate, All-take, All-drop}
 use Rattle.cdl_decimal.specs.Counts.{floor_whole}
-use Rattle.cdl_kinds.specs.Meaning.Reals.{least, greatest}
+use Rattle.cdl_values.specs.Extremes.{least, greatest}
 use Rattle.cdl_array.specs.declared.numbers.Numbers.{Numbers}
 use Rattle.cdl_array.specs.declared.numbers.Numbers.TheVariants.{Integers, Reals}
 use Rattle.cdl_array.specs.declared.functions.Function.{Function}
@@ -39,8 +39,8 @@ number_sound _ z v e = cc
 row_sound : (f : List ℤ → Outcome ℤ) (a : Array) (v : Value) → row_value f a ≡ Ok v → IsSound v
 row_sound f a v e =
     let vs = then_gives (row_of a) _ v e in
-    let z = then_gives (f (counts_in a.kind vs.0)) _ v vs.2 in
-    number_sound a.kind z.0 v z.2
+    let z = then_gives (f (counts_in a.value_type vs.0)) _ v vs.2 in
+    number_sound a.value_type z.0 v z.2
 
 row_array : (f : List ℤ → Outcome ℤ) (a c : Array) → of_row f a ≡ Ok c → IsArray c
 row_array f a c e = made (row_value f a) c (row_sound f a) e
@@ -104,22 +104,22 @@ shape_array t v shape c h few e =
     let q : items_of shape ≡ n.0 = let r = m.1 in cc in
     given _ c n.2 (record { sizes = few; count = length-replicate n.0 v ∙ sym q; each = All-replicate (IsOf t) n.0 v h })
 
-scalar_of_type : (a : Array) (v : Value) → IsArray a → scalar_of a ≡ Some v → IsOf a.kind v
+scalar_of_type : (a : Array) (v : Value) → IsArray a → scalar_of a ≡ Some v → IsOf a.value_type v
 unfolding scalar_of
-scalar_of_type a v h e = first_is (IsOf a.kind) a.shape a.items v h.each e
+scalar_of_type a v h e = first_is (IsOf a.value_type) a.shape a.items v h.each e
 
 filled_row_array : (x n c : Array) → IsArray x → filled_row x n ≡ Ok c → IsArray c
 filled_row_array x n c h e =
     let v = some_gives (scalar_of x) WRONG_SHAPE _ c e in
     let s = then_gives (size_of n) _ c v.2 in
-    shape_array x.kind v.0 (s.0 ∷ []) c (scalar_of_type x v.0 h v.1) (omega arith) s.2
+    shape_array x.value_type v.0 (s.0 ∷ []) c (scalar_of_type x v.0 h v.1) (omega arith) s.2
 
 filled_rows_array : (x n m c : Array) → IsArray x → filled_rows x n m ≡ Ok c → IsArray c
 filled_rows_array x n m c h e =
     let v = some_gives (scalar_of x) WRONG_SHAPE _ c e in
     let r = then_gives (size_of n) _ c v.2 in
     let s = then_gives (size_of m) _ c r.2 in
-    shape_array x.kind v.0 (r.0 ∷ s.0 ∷ []) c (scalar_of_type x v.0 h v.1) (omega arith) s.2
+    shape_array x.value_type v.0 (r.0 ∷ s.0 ∷ []) c (scalar_of_type x v.0 h v.1) (omega arith) s.2
 
 pub call_array : (f : Function) (args : List Array) (c : Array) → All IsArray args → call f args ≡ Ok c → IsArray c
 call_array Abs (a ∷ []) c h e = scalar_array magnitude a c (λ x v s. magnitude_sound x v) (All-head IsArray a [] h) e
@@ -146,7 +146,7 @@ subscript_array a subs c h e =
     let t = holds_gives (are_subscripts subs) WRONG_TYPE _ c s.1 in
     let k = some_gives (place_of a.shape subs) NO_VALUE _ c t.1 in
     let v = some_gives (slice_get a.items k.0) NO_VALUE _ c k.2 in
-    given _ c v.2 (record { sizes = omega arith; count = refl; each = All-cons (IsOf a.kind) v.0 [] (at_all (IsOf a.kind) a.items k.0 v.0 h.each v.1) (All-nil (IsOf a.kind)) })
+    given _ c v.2 (record { sizes = omega arith; count = refl; each = All-cons (IsOf a.value_type) v.0 [] (at_all (IsOf a.value_type) a.items k.0 v.0 h.each v.1) (All-nil (IsOf a.value_type)) })
 
 pub part_array : (a : Array) (is : List ℕ) (c : Array) → IsArray a → part a is ≡ Ok c → IsArray c
 part_array a is c h e =
@@ -157,4 +157,4 @@ part_array a is c h e =
     let fits : k.0 * r + r ≤ length a.items = part_fits a (take n a.shape) rest is k.0 r h (take-append-drop n a.shape) k.1 refl in
     let few : length rest ≤ 2 = omega (arith, length-drop n a.shape, h.sizes) in
     let long : length (take (k.0 * r + r - k.0 * r) (drop (k.0 * r) a.items)) ≡ r = length-take-le (k.0 * r + r - k.0 * r) (drop (k.0 * r) a.items) (omega (arith, length-drop (k.0 * r) a.items)) ∙ omega arith in
-    given _ c k.2 (record { sizes = few; count = long; each = All-take (IsOf a.kind) _ _ (All-drop (IsOf a.kind) _ _ h.each) })
+    given _ c k.2 (record { sizes = few; count = long; each = All-take (IsOf a.value_type) _ _ (All-drop (IsOf a.value_type) _ _ h.each) })

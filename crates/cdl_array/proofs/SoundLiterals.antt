@@ -2,12 +2,12 @@
 use Rattle.std.proofs.Common.{ℕ, ◌+◌, ◌*◌, ◌≡◌, ◌≤◌, Bool, true, false, ◌&&◌, cond, List, [], ◌∷◌, ◌++◌, Ok, length, refl, arith, sym, ap, ◌∙◌, subst}
 use Rattle.std.specs.Prelude.{nat_le}
 use Rattle.std.proofs.lemmas.Bool.Decides.{nat_tests}
-use Rattle.cdl_kinds.specs.Values.{IsArray, IsOf, items_of}
-use Rattle.cdl_kinds.specs.declared.value.Array.{Array}
-use Rattle.cdl_kinds.specs.declared.value.Value.{Value}
-use Rattle.cdl_kinds.specs.declared.value.Value.TheVariants.{Boolean, Integer, Real, Str, Enumeration}
-use Rattle.cdl_kinds.specs.declared.value.ValueType.{ValueType}
-use Rattle.cdl_kinds.specs.declared.value.ValueType.TheVariants.{Boolean as BooleanType, Integer as IntegerType, Real as RealType, Str as StrType, Enumeration as EnumerationType}
+use Rattle.cdl_values.specs.Values.{IsArray, IsOf, items_of}
+use Rattle.cdl_values.specs.declared.value.Array.{Array}
+use Rattle.cdl_values.specs.declared.value.Value.{Value}
+use Rattle.cdl_values.specs.declared.value.Value.TheVariants.{Boolean, Integer, Real, Str, Enumeration}
+use Rattle.cdl_values.specs.declared.value.ValueType.{ValueType}
+use Rattle.cdl_values.specs.declared.value.ValueType.TheVariants.{Boolean as BooleanType, Integer as IntegerType, Real as RealType, Str as StrType, Enumeration as EnumerationType}
 use Rattle.std.specs.Str.{bytes_eq}
 use Rattle.std.specs.List.{All, list_all}
 use Rattle.std.proofs.lemmas.List.{length-map, length-append}
@@ -55,13 +55,13 @@ as_real _ _ e h = cc
 
 -- the items of an array become values of this type
 abbrev Becomes : ValueType → Array → Type 0
-Becomes t a = (v : Value) → IsOf a.kind v → IsOf t (value_as t v)
+Becomes t a = (v : Value) → IsOf a.value_type v → IsOf t (value_as t v)
 
-same_becomes : (t : ValueType) (a : Array) → same_type t a.kind ≡ true → Becomes t a
-same_becomes t a e v h = keep t v (subst (λ (u : ValueType). IsOf u v) (sym (type_is t a.kind e)) h)
+same_becomes : (t : ValueType) (a : Array) → same_type t a.value_type ≡ true → Becomes t a
+same_becomes t a e v h = keep t v (subst (λ (u : ValueType). IsOf u v) (sym (type_is t a.value_type e)) h)
 
-number_becomes : (a : Array) → is_number a.kind ≡ true → Becomes RealType a
-number_becomes a e v h = as_real a.kind v e h
+number_becomes : (a : Array) → is_number a.value_type ≡ true → Becomes RealType a
+number_becomes a e v h = as_real a.value_type v e h
 
 all_from : (p : Array → Bool) (P : Array → Type 0) → ((a : Array) → p a ≡ true → P a) → (xs : List Array) → list_all p xs ≡ true → All P xs
 all_from p P f [] e = All-nil P
@@ -72,14 +72,14 @@ common_cases true first t xs f e = let q : first ≡ t = cc in subst (λ (u : Va
 common_cases false first t xs f e =
     let n = holds_gives (are_numbers xs) WRONG_TYPE (Ok RealType) t e in
     let q : RealType ≡ t = let r = n.1 in cc in
-    subst (λ (u : ValueType). All (Becomes u) xs) q (all_from (λ a. is_number a.kind) (Becomes RealType) number_becomes xs n.0)
+    subst (λ (u : ValueType). All (Becomes u) xs) q (all_from (λ a. is_number a.value_type) (Becomes RealType) number_becomes xs n.0)
 
 common_becomes : (first t : ValueType) (xs : List Array) → common_type first xs ≡ Ok t → All (Becomes t) xs
 unfolding common_type
-common_becomes first t xs e = common_cases (have_type first xs) first t xs (all_from (λ a. same_type first a.kind) (Becomes first) (same_becomes first) xs) e
+common_becomes first t xs e = common_cases (have_type first xs) first t xs (all_from (λ a. same_type first a.value_type) (Becomes first) (same_becomes first) xs) e
 
 values_each : (t : ValueType) (a : Array) → IsArray a → Becomes t a → All (IsOf t) (values_as t a.items)
-values_each t a h b = All-map (IsOf t) (value_as t) a.items (All-weaker (IsOf a.kind) (λ v. IsOf t (value_as t v)) b a.items h.each)
+values_each t a h b = All-map (IsOf t) (value_as t) a.items (All-weaker (IsOf a.value_type) (λ v. IsOf t (value_as t v)) b a.items h.each)
 
 -- literals
 items_each : (t : ValueType) (xs : List Array) → All IsArray xs → All (Becomes t) xs → All (IsOf t) (items_as t xs)
@@ -109,7 +109,7 @@ like_array first shape xs c h e =
 
 pub literal_array : (xs : List Array) (c : Array) → All IsArray xs → literal xs ≡ Ok c → IsArray c
 literal_array [] c h e = cc
-literal_array (x ∷ xs) c h e = like_array x.kind x.shape (x ∷ xs) c h e
+literal_array (x ∷ xs) c h e = like_array x.value_type x.shape (x ∷ xs) c h e
 
 -- conversions
 integer_is_number : (u : ValueType) → is_integer u ≡ true → is_number u ≡ true
@@ -117,17 +117,17 @@ unfolding is_integer is_number
 integer_is_number IntegerType e = refl
 integer_is_number _ e = cc
 
-real_becomes : (t : ValueType) (a : Array) → is_real t ≡ true → is_number a.kind ≡ true → Becomes t a
+real_becomes : (t : ValueType) (a : Array) → is_real t ≡ true → is_number a.value_type ≡ true → Becomes t a
 unfolding is_real
 real_becomes RealType a e n = number_becomes a n
 real_becomes _ a e n = cc
 
-converted_cases : (same : Bool) (t : ValueType) (a c : Array) → IsArray a → cond same (Ok a) (holds_or (is_integer a.kind) WRONG_TYPE (holds_or (is_real t) WRONG_TYPE (Ok (record { kind = t; shape = a.shape; items = values_as t a.items })))) ≡ Ok c → IsArray c
+converted_cases : (same : Bool) (t : ValueType) (a c : Array) → IsArray a → cond same (Ok a) (holds_or (is_integer a.value_type) WRONG_TYPE (holds_or (is_real t) WRONG_TYPE (Ok (record { value_type = t; shape = a.shape; items = values_as t a.items })))) ≡ Ok c → IsArray c
 converted_cases true t a c h e = given a c e h
 converted_cases false t a c h e =
-    let i = holds_gives (is_integer a.kind) WRONG_TYPE _ c e in
+    let i = holds_gives (is_integer a.value_type) WRONG_TYPE _ c e in
     let r = holds_gives (is_real t) WRONG_TYPE _ c i.1 in
-    given _ c r.1 (record { sizes = h.sizes; count = rw length-map h.count; each = values_each t a h (real_becomes t a r.0 (integer_is_number a.kind i.0)) })
+    given _ c r.1 (record { sizes = h.sizes; count = rw length-map h.count; each = values_each t a h (real_becomes t a r.0 (integer_is_number a.value_type i.0)) })
 
 pub converted_array : (t : ValueType) (a c : Array) → IsArray a → converted t a ≡ Ok c → IsArray c
-converted_array t a c h e = converted_cases (same_type a.kind t) t a c h e
+converted_array t a c h e = converted_cases (same_type a.value_type t) t a c h e

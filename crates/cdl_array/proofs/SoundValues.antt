@@ -6,12 +6,12 @@ use Rattle.std.proofs.lemmas.Bool.Decides.{nat_tests}
 use Rattle.std.proofs.lemmas.List.Elements.{All-nil, All-cons, All-head}
 use Rattle.cdl_decimal.specs.Near.{InRange, in_range, near, near_signed}
 use Rattle.cdl_decimal.specs.Counts.{real_add, real_sub, real_mul, real_div}
-use Rattle.cdl_kinds.specs.Values.{IsArray, IsOf}
-use Rattle.cdl_kinds.specs.declared.value.Array.{Array}
-use Rattle.cdl_kinds.specs.declared.value.Value.{Value}
-use Rattle.cdl_kinds.specs.declared.value.Value.TheVariants.{Boolean, Integer, Real, Str, Enumeration}
-use Rattle.cdl_kinds.specs.declared.value.ValueType.{ValueType}
-use Rattle.cdl_kinds.specs.declared.value.ValueType.TheVariants.{Boolean as BooleanType, Integer as IntegerType, Real as RealType, Str as StrType, Enumeration as EnumerationType}
+use Rattle.cdl_values.specs.Values.{IsArray, IsOf}
+use Rattle.cdl_values.specs.declared.value.Array.{Array}
+use Rattle.cdl_values.specs.declared.value.Value.{Value}
+use Rattle.cdl_values.specs.declared.value.Value.TheVariants.{Boolean, Integer, Real, Str, Enumeration}
+use Rattle.cdl_values.specs.declared.value.ValueType.{ValueType}
+use Rattle.cdl_values.specs.declared.value.ValueType.TheVariants.{Boolean as BooleanType, Integer as IntegerType, Real as RealType, Str as StrType, Enumeration as EnumerationType}
 use Rattle.cdl_tree.specs.declared.expr.Op.{Op}
 use Rattle.cdl_tree.specs.declared.expr.Op.TheVariants.{Plus, Minus, Times, Divide, Less, LessEqual, Greater, GreaterEqual, Equal, NotEqual, And, Or, Not}
 use Rattle.cdl_array.specs.declared.numbers.Numbers.{Numbers}
@@ -41,7 +41,7 @@ first_is P (n ∷ ns) items v h e = cc
 
 pub scalar_value : (a : Array) (v : Value) → IsArray a → scalar_of a ≡ Some v → IsSound v
 unfolding scalar_of
-scalar_value a v h e = of_type a.kind v (first_is (IsOf a.kind) a.shape a.items v h.each e)
+scalar_value a v h e = of_type a.value_type v (first_is (IsOf a.value_type) a.shape a.items v h.each e)
 
 pub scalar_is : (v : Value) → IsSound v → IsArray (scalar v)
 scalar_is v h = record { sizes = omega arith; count = refl; each = All-cons (IsOf (type_of v)) v [] h (All-nil (IsOf (type_of v))) }

@@ -4,13 +4,13 @@ use Rattle.std.specs.Int.RustNames.{int_le}
 use Rattle.std.specs.Str.{bytes_eq}
 use Rattle.cdl_decimal.specs.Near.{in_range}
 use Rattle.cdl_decimal.specs.Counts.{real_floor_integer, total}
-use Rattle.cdl_kinds.specs.Values.{integer_of, real_of}
-use Rattle.cdl_kinds.specs.Meaning.Reals.{least, greatest}
-use Rattle.cdl_kinds.specs.declared.value.Array.{Array}
-use Rattle.cdl_kinds.specs.declared.value.Value.{Value}
-use Rattle.cdl_kinds.specs.declared.value.Value.TheVariants.{Integer, Real}
-use Rattle.cdl_kinds.specs.declared.value.ValueType.{ValueType}
-use Rattle.cdl_kinds.specs.declared.value.ValueType.TheVariants.{Integer as IntegerType, Real as RealType}
+use Rattle.cdl_values.specs.Values.{integer_of, real_of}
+use Rattle.cdl_values.specs.Extremes.{least, greatest}
+use Rattle.cdl_values.specs.declared.value.Array.{Array}
+use Rattle.cdl_values.specs.declared.value.Value.{Value}
+use Rattle.cdl_values.specs.declared.value.Value.TheVariants.{Integer, Real}
+use Rattle.cdl_values.specs.declared.value.ValueType.{ValueType}
+use Rattle.cdl_values.specs.declared.value.ValueType.TheVariants.{Integer as IntegerType, Real as RealType}
 use Rattle.cdl_array.specs.declared.functions.Function.{Function}
 use Rattle.cdl_array.specs.declared.functions.Function.TheVariants.{Abs, Min, Max, Sum, Size, Fill, Floor}
 use Rattle.cdl_source.specs.declared.rules.TheConstants.{WRONG_SHAPE, WRONG_TYPE, UNKNOWN_NAME, NO_VALUE}
@@ -83,11 +83,11 @@ counts_in t vs = map (count_in t) vs
 
 -- the items of a row of numbers: an array of one dimension, and then of Integers or Reals
 unfoldable pub row_of : Array → Outcome (List Value)
-row_of a = holds_or (length a.shape == 1) WRONG_SHAPE (holds_or (is_number a.kind) WRONG_TYPE (Ok a.items))
+row_of a = holds_or (length a.shape == 1) WRONG_SHAPE (holds_or (is_number a.value_type) WRONG_TYPE (Ok a.items))
 
 -- the number of the type of a row that this gives of its counts
 abbrev pub row_value : (List ℤ → Outcome ℤ) → Array → Outcome Value
-row_value f a = then_to (row_of a) (λ vs. then_to (f (counts_in a.kind vs)) (number_of a.kind))
+row_value f a = then_to (row_of a) (λ vs. then_to (f (counts_in a.value_type vs)) (number_of a.value_type))
 
 abbrev pub of_row : (List ℤ → Outcome ℤ) → Array → Outcome Array
 of_row f a = then_to (row_value f a) (λ v. Ok (scalar v))
@@ -111,15 +111,15 @@ dimension_value shape _ = Err WRONG_TYPE
 
 -- an array of this shape and of equal items, of which there are few enough
 abbrev pub filled_shape : ValueType → Value → List ℕ → Outcome Array
-filled_shape t v shape = then_to (count_of shape) (λ n. Ok (record { kind = t; shape = shape; items = replicate n v }))
+filled_shape t v shape = then_to (count_of shape) (λ n. Ok (record { value_type = t; shape = shape; items = replicate n v }))
 
 -- `fill(x, n)` and `fill(x, n, m)`: x is a scalar; then each size, whole; then the items are few enough
 abbrev pub filled_row : Array → Array → Outcome Array
-filled_row x n = some_or (scalar_of x) WRONG_SHAPE (λ v. then_to (size_of n) (λ size. filled_shape x.kind v (size ∷ [])))
+filled_row x n = some_or (scalar_of x) WRONG_SHAPE (λ v. then_to (size_of n) (λ size. filled_shape x.value_type v (size ∷ [])))
 
 abbrev pub filled_rows : Array → Array → Array → Outcome Array
 filled_rows x n m =
-    some_or (scalar_of x) WRONG_SHAPE (λ v. then_to (size_of n) (λ rows. then_to (size_of m) (λ columns. filled_shape x.kind v (rows ∷ columns ∷ []))))
+    some_or (scalar_of x) WRONG_SHAPE (λ v. then_to (size_of n) (λ rows. then_to (size_of m) (λ columns. filled_shape x.value_type v (rows ∷ columns ∷ []))))
 
 -- a function of these arguments; it takes no other number of them
 abbrev pub call : Function → List Array → Outcome Array

@@ -2,9 +2,9 @@
 use Rattle.std.specs.Prelude.{ℕ, Bool, ◌&&◌, List, [], ◌∷◌, length, nat_le, Ok, Err}
 use Rattle.std.specs.List.{list_all, flat_map}
 use Rattle.std.specs.Str.{bytes_eq}
-use Rattle.cdl_kinds.specs.declared.value.Array.{Array}
-use Rattle.cdl_kinds.specs.declared.value.Value.{Value}
-use Rattle.cdl_kinds.specs.declared.value.ValueType.{ValueType}
+use Rattle.cdl_values.specs.declared.value.Array.{Array}
+use Rattle.cdl_values.specs.declared.value.Value.{Value}
+use Rattle.cdl_values.specs.declared.value.ValueType.{ValueType}
 use Rattle.cdl_source.specs.declared.limits.TheConstants.{LARGEST_SIZE}
 use Rattle.cdl_source.specs.declared.rules.TheConstants.{WRONG_SHAPE, SIZE_OUT_OF_RANGE}
 use Rattle.cdl_array.specs.Outcomes.{Outcome, then_to, holds_or}
@@ -21,7 +21,7 @@ items_as t arrays = flat_map (λ a. values_as t a.items) arrays
 -- the arrays of this shape, one after the other, as values of this type, where they have at most 65,536 items together
 abbrev pub counted : ValueType → List ℕ → List Array → Outcome Array
 counted t shape arrays =
-    then_to (count_of (length arrays ∷ shape)) (λ n. Ok (record { kind = t; shape = length arrays ∷ shape; items = items_as t arrays }))
+    then_to (count_of (length arrays ∷ shape)) (λ n. Ok (record { value_type = t; shape = length arrays ∷ shape; items = items_as t arrays }))
 
 -- What the items of an array literal make, of which the first has this type and this shape. All are scalars or arrays of one
 -- dimension, of one shape; then all have one type, or are numbers; then there are at most 4096, of 65,536 items together.
@@ -34,4 +34,4 @@ literal_like first shape arrays =
 -- no items have no shape
 abbrev pub literal : List Array → Outcome Array
 literal [] = Err WRONG_SHAPE
-literal (a ∷ more) = literal_like a.kind a.shape (a ∷ more)
+literal (a ∷ more) = literal_like a.value_type a.shape (a ∷ more)

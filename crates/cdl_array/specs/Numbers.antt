@@ -5,8 +5,8 @@ use Rattle.std.specs.Int.RustNames.{int_lt, int_le}
 use Rattle.std.specs.Ordering.{int_eq}
 use Rattle.cdl_decimal.specs.Near.{in_integer_range}
 use Rattle.cdl_decimal.specs.Counts.{real_add, real_sub, real_mul, real_div}
-use Rattle.cdl_kinds.specs.declared.value.Value.{Value}
-use Rattle.cdl_kinds.specs.declared.value.Value.TheVariants.{Integer, Real}
+use Rattle.cdl_values.specs.declared.value.Value.{Value}
+use Rattle.cdl_values.specs.declared.value.Value.TheVariants.{Integer, Real}
 use Rattle.cdl_array.specs.declared.numbers.Numbers.{Numbers}
 use Rattle.cdl_array.specs.declared.numbers.Numbers.TheVariants.{Integers, Reals}
 use Rattle.cdl_source.specs.declared.rules.TheConstants.{WRONG_TYPE, NO_VALUE}

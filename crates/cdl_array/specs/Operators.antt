@@ -4,9 +4,9 @@ use Rattle.std.specs.Prelude.{pos, ◌-ℤ◌, Bool, true, false, not, ◌&&◌,
 use Rattle.std.specs.Str.{bytes_eq}
 use Rattle.std.specs.Bool.{beq}
 use Rattle.cdl_decimal.specs.Counts.{real_sub}
-use Rattle.cdl_kinds.specs.declared.value.Array.{Array}
-use Rattle.cdl_kinds.specs.declared.value.Value.{Value}
-use Rattle.cdl_kinds.specs.declared.value.Value.TheVariants.{Boolean, Integer, Real, Str, Enumeration}
+use Rattle.cdl_values.specs.declared.value.Array.{Array}
+use Rattle.cdl_values.specs.declared.value.Value.{Value}
+use Rattle.cdl_values.specs.declared.value.Value.TheVariants.{Boolean, Integer, Real, Str, Enumeration}
 use Rattle.cdl_tree.specs.declared.expr.Op.{Op}
 use Rattle.cdl_tree.specs.declared.expr.Op.TheVariants.{Plus, Minus, Times, Divide, Less, LessEqual, Greater, GreaterEqual, Equal, NotEqual, And, Or, Not}
 use Rattle.cdl_array.specs.declared.numbers.Numbers.{Numbers}

@@ -1,10 +1,10 @@
 -- Items and parts of arrays, by indices that count from 1.
 use Rattle.std.specs.Prelude.{ℕ, ◌+◌, ◌-◌, ◌*◌, pos, Bool, ◌&&◌, ◌==◌, cond, List, [], ◌∷◌, length, map, take, drop, Option, Some, None, is_some, slice_get, slice_range, nat_le, Ok}
 use Rattle.std.specs.List.{list_all}
-use Rattle.cdl_kinds.specs.Values.{items_of}
-use Rattle.cdl_kinds.specs.declared.value.Array.{Array}
-use Rattle.cdl_kinds.specs.declared.value.Value.{Value}
-use Rattle.cdl_kinds.specs.declared.value.Value.TheVariants.{Integer}
+use Rattle.cdl_values.specs.Values.{items_of}
+use Rattle.cdl_values.specs.declared.value.Array.{Array}
+use Rattle.cdl_values.specs.declared.value.Value.{Value}
+use Rattle.cdl_values.specs.declared.value.Value.TheVariants.{Integer}
 use Rattle.cdl_source.specs.declared.rules.TheConstants.{WRONG_SHAPE, WRONG_TYPE, NO_VALUE}
 use Rattle.cdl_array.specs.Outcomes.{Outcome, some_or, holds_or}
 use Rattle.cdl_array.specs.Scalars.{scalar_of}
@@ -59,7 +59,7 @@ place_of shape subs = place shape (map index_of subs)
 
 -- one item, as a scalar
 abbrev pub item : Array → Option ℕ → Outcome Array
-item a at = some_or at NO_VALUE (λ k. some_or (slice_get a.items k) NO_VALUE (λ v. Ok (record { kind = a.kind; shape = []; items = v ∷ [] })))
+item a at = some_or at NO_VALUE (λ k. some_or (slice_get a.items k) NO_VALUE (λ v. Ok (record { value_type = a.value_type; shape = []; items = v ∷ [] })))
 
 -- an array with subscripts: as many as it has dimensions, each a scalar; then each an Integer; then each in range
 abbrev pub subscript : Array → List Array → Outcome Array
@@ -77,4 +77,4 @@ stretch values at count = slice_range values (at * count) (at * count + count)
 abbrev pub part : Array → List ℕ → Outcome Array
 part a is =
     let rest = drop (length is) a.shape in
-    some_or (place (take (length is) a.shape) is) WRONG_SHAPE (λ k. Ok (record { kind = a.kind; shape = rest; items = stretch a.items k (items_of rest) }))
+    some_or (place (take (length is) a.shape) is) WRONG_SHAPE (λ k. Ok (record { value_type = a.value_type; shape = rest; items = stretch a.items k (items_of rest) }))

@@ -1,10 +1,10 @@
 -- Scalars: arrays without sizes, of one item.
 use Rattle.std.specs.Prelude.{ℕ, List, [], ◌∷◌, Option, None, slice_get}
-use Rattle.cdl_kinds.specs.declared.value.Array.{Array}
-use Rattle.cdl_kinds.specs.declared.value.Value.{Value}
-use Rattle.cdl_kinds.specs.declared.value.Value.TheVariants.{Boolean, Integer, Real, Str, Enumeration}
-use Rattle.cdl_kinds.specs.declared.value.ValueType.{ValueType}
-use Rattle.cdl_kinds.specs.declared.value.ValueType.TheVariants.{Boolean as BooleanType, Integer as IntegerType, Real as RealType, Str as StrType, Enumeration as EnumerationType}
+use Rattle.cdl_values.specs.declared.value.Array.{Array}
+use Rattle.cdl_values.specs.declared.value.Value.{Value}
+use Rattle.cdl_values.specs.declared.value.Value.TheVariants.{Boolean, Integer, Real, Str, Enumeration}
+use Rattle.cdl_values.specs.declared.value.ValueType.{ValueType}
+use Rattle.cdl_values.specs.declared.value.ValueType.TheVariants.{Boolean as BooleanType, Integer as IntegerType, Real as RealType, Str as StrType, Enumeration as EnumerationType}
 
 abbrev pub first_without_sizes : List ℕ → List Value → Option Value
 first_without_sizes [] items = slice_get items 0
@@ -24,4 +24,4 @@ type_of (Enumeration c o) = EnumerationType c
 
 -- the scalar of a value
 abbrev pub scalar : Value → Array
-scalar v = record { kind = type_of v; shape = []; items = v ∷ [] }
+scalar v = record { value_type = type_of v; shape = []; items = v ∷ [] }

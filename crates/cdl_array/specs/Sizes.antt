@@ -1,10 +1,10 @@
 -- Sizes, and shapes whose items are not too many.
 use Rattle.std.specs.Prelude.{ℕ, pos, ◌&&◌, List, unsigned_abs, nat_le, Ok, Err}
 use Rattle.std.specs.Int.RustNames.{int_le}
-use Rattle.cdl_kinds.specs.Values.{items_of}
-use Rattle.cdl_kinds.specs.declared.value.Array.{Array}
-use Rattle.cdl_kinds.specs.declared.value.Value.{Value}
-use Rattle.cdl_kinds.specs.declared.value.Value.TheVariants.{Integer}
+use Rattle.cdl_values.specs.Values.{items_of}
+use Rattle.cdl_values.specs.declared.value.Array.{Array}
+use Rattle.cdl_values.specs.declared.value.Value.{Value}
+use Rattle.cdl_values.specs.declared.value.Value.TheVariants.{Integer}
 use Rattle.cdl_source.specs.declared.limits.TheConstants.{LARGEST_SIZE, MOST_ITEMS}
 use Rattle.cdl_source.specs.declared.rules.TheConstants.{WRONG_SHAPE, WRONG_TYPE, SIZE_OUT_OF_RANGE}
 use Rattle.cdl_array.specs.Outcomes.{Outcome, some_or, holds_or}

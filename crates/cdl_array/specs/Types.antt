@@ -1,11 +1,11 @@
 -- Types of arrays, and values as values of another type.
 use Rattle.std.specs.Prelude.{Bool, true, false, ◌==◌, cond, List, map, Ok}
 use Rattle.std.specs.List.{list_all}
-use Rattle.cdl_kinds.specs.declared.value.Array.{Array}
-use Rattle.cdl_kinds.specs.declared.value.Value.{Value}
-use Rattle.cdl_kinds.specs.declared.value.Value.TheVariants.{Integer, Real}
-use Rattle.cdl_kinds.specs.declared.value.ValueType.{ValueType}
-use Rattle.cdl_kinds.specs.declared.value.ValueType.TheVariants.{Boolean as BooleanType, Integer as IntegerType, Real as RealType, Str as StrType, Enumeration as EnumerationType}
+use Rattle.cdl_values.specs.declared.value.Array.{Array}
+use Rattle.cdl_values.specs.declared.value.Value.{Value}
+use Rattle.cdl_values.specs.declared.value.Value.TheVariants.{Integer, Real}
+use Rattle.cdl_values.specs.declared.value.ValueType.{ValueType}
+use Rattle.cdl_values.specs.declared.value.ValueType.TheVariants.{Boolean as BooleanType, Integer as IntegerType, Real as RealType, Str as StrType, Enumeration as EnumerationType}
 use Rattle.cdl_source.specs.declared.rules.TheConstants.{WRONG_TYPE}
 use Rattle.cdl_array.specs.Outcomes.{Outcome, holds_or}
 use Rattle.cdl_array.specs.Numbers.{millionths}
@@ -33,10 +33,10 @@ is_real RealType = true
 is_real _ = false
 
 abbrev pub have_type : ValueType → List Array → Bool
-have_type t arrays = list_all (λ a. same_type t a.kind) arrays
+have_type t arrays = list_all (λ a. same_type t a.value_type) arrays
 
 abbrev pub are_numbers : List Array → Bool
-are_numbers arrays = list_all (λ a. is_number a.kind) arrays
+are_numbers arrays = list_all (λ a. is_number a.value_type) arrays
 
 -- the type of arrays together, of which the first has this type: the one type that they have, or Real where all are numbers
 unfoldable pub common_type : ValueType → List Array → Outcome ValueType
@@ -52,5 +52,5 @@ values_as t vs = map (value_as t) vs
 
 -- an array where this type is declared: as it is, or Integers as Reals
 abbrev pub converted : ValueType → Array → Outcome Array
-converted t a = cond (same_type a.kind t) (Ok a)
-    (holds_or (is_integer a.kind) WRONG_TYPE (holds_or (is_real t) WRONG_TYPE (Ok (record { kind = t; shape = a.shape; items = values_as t a.items }))))
+converted t a = cond (same_type a.value_type t) (Ok a)
+    (holds_or (is_integer a.value_type) WRONG_TYPE (holds_or (is_real t) WRONG_TYPE (Ok (record { value_type = t; shape = a.shape; items = values_as t a.items }))))

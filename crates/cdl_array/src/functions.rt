@@ -2,8 +2,8 @@
 ghost use Rattle.std.specs.Prelude.{◌≡◌, ℤ, ◌*◌, ◌≤◌, ◌<◌, ◌^◌, length, unsigned_abs, replicate, IfOk, MatchResult, Ok, Err};
 ghost use Rattle.cdl_decimal.specs.Near.{InRange, in_range};
 ghost use Rattle.cdl_decimal.specs.Counts.{total};
-ghost use Rattle.cdl_kinds.specs.Meaning.Reals.{least, greatest};
-ghost use Rattle.cdl_kinds.specs.Meaning.Integers as counts;
+ghost use Rattle.cdl_values.specs.Extremes.{least, greatest};
+ghost use Rattle.cdl_values.specs.Extremes as counts;
 ghost use Rattle.cdl_array.specs.Outcomes.{Answers};
 ghost use Rattle.cdl_array.specs.Numbers as pairs;
 ghost use Rattle.cdl_array.specs.Functions as spec;
@@ -15,9 +15,9 @@ use crate::scalars::{scalar, scalar_if, scalar_of};
 use crate::sizes::{count_of, size_of};
 use crate::types::{copy_shape, is_number};
 use cdl_decimal::Real;
-use cdl_kinds::{Array, Value, ValueType};
 use cdl_source::rules::{NO_VALUE, UNKNOWN_NAME, WRONG_SHAPE, WRONG_TYPE};
 use cdl_source::{LARGEST_REAL, List, OutOfMemory};
+use cdl_values::{Array, Value, ValueType};
 use std::alloc::Global;
 
 /// The functions.
@@ -243,7 +243,7 @@ fn row_of(array: &Array) -> Result<&[Value], u32>
     if array.shape.items().len() != 1 {
         return Err(WRONG_SHAPE);
     }
-    if !is_number(array.kind) {
+    if !is_number(array.value_type) {
         return Err(WRONG_TYPE);
     }
     Ok(array.items.items())
@@ -257,7 +257,7 @@ fn least_value(array: &Array) -> Result<Value, u32>
     if items.is_empty() {
         return Err(NO_VALUE);
     }
-    number_of(array.kind, least_of(array.kind, items) as i128)
+    number_of(array.value_type, least_of(array.value_type, items) as i128)
 }
 
 fn greatest_value(array: &Array) -> Result<Value, u32>
@@ -267,7 +267,10 @@ fn greatest_value(array: &Array) -> Result<Value, u32>
     if items.is_empty() {
         return Err(NO_VALUE);
     }
-    number_of(array.kind, greatest_of(array.kind, items) as i128)
+    number_of(
+        array.value_type,
+        greatest_of(array.value_type, items) as i128,
+    )
 }
 
 // The sum of a row, whose parts may be out of range.
@@ -275,7 +278,7 @@ fn sum_value(array: &Array) -> Result<Value, u32>
     ensures { result ≡ spec.row_value spec.of_all array.now }
 {
     let items = row_of(array)?;
-    number_of(array.kind, total_of(array.kind, items))
+    number_of(array.value_type, total_of(array.value_type, items))
 }
 
 fn two_of(alloc: Global, left: &Array, right: &Array, greatest: bool) -> Result<Array, EvalFault>
@@ -344,7 +347,7 @@ fn filled_shape(
     let shape = copy_shape(alloc, shape)?;
     let items = replicate(alloc, value, count)?;
     Ok(Array {
-        kind: value_type,
+        value_type,
         shape,
         items,
     })
@@ -360,7 +363,7 @@ fn filled_row(alloc: Global, array: &Array, size: &Array) -> Result<Array, EvalF
         Ok(size) => size,
         Err(fault) => return Err(fault),
     };
-    filled_shape(alloc, array.kind, value, &[size])
+    filled_shape(alloc, array.value_type, value, &[size])
 }
 
 fn filled_rows(
@@ -382,7 +385,7 @@ fn filled_rows(
         Ok(columns) => columns,
         Err(fault) => return Err(fault),
     };
-    filled_shape(alloc, array.kind, value, &[rows, columns])
+    filled_shape(alloc, array.value_type, value, &[rows, columns])
 }
 
 // A function of one scalar.

@@ -1,9 +1,9 @@
 // What is an array in, is an array out.
 ghost use Rattle.std.specs.Prelude.{◌≡◌, ℕ, List, Ok};
 ghost use Rattle.std.specs.List.{All};
-ghost use Rattle.cdl_kinds.specs.Values.{IsArray};
-ghost use Rattle.cdl_kinds.specs.declared.value.Array.{Array as ArrayOf};
-ghost use Rattle.cdl_kinds.specs.declared.value.ValueType.{ValueType as TypeOf};
+ghost use Rattle.cdl_values.specs.Values.{IsArray};
+ghost use Rattle.cdl_values.specs.declared.value.Array.{Array as ArrayOf};
+ghost use Rattle.cdl_values.specs.declared.value.ValueType.{ValueType as TypeOf};
 ghost use Rattle.cdl_tree.specs.declared.expr.Op.{Op as OpOf};
 ghost use Rattle.cdl_array.specs.declared.functions.Function.{Function as FunctionOf};
 ghost use Rattle.cdl_array.specs.Functions.{call};

@@ -6,9 +6,9 @@ ghost use Rattle.cdl_array.specs.Literals as spec;
 use crate::fault::EvalFault;
 use crate::sizes::count_of;
 use crate::types::{common_type, push_as};
-use cdl_kinds::{Array, Value, ValueType};
 use cdl_source::rules::{SIZE_OUT_OF_RANGE, WRONG_SHAPE};
 use cdl_source::{LARGEST_SIZE, List, OutOfMemory};
+use cdl_values::{Array, Value, ValueType};
 use std::alloc::Global;
 
 fn have_shape(shape: &[u32], arrays: &[Array]) -> bool
@@ -62,7 +62,7 @@ fn rows(
     }
     let items = all_items(alloc, value_type, arrays)?;
     Ok(Array {
-        kind: value_type,
+        value_type,
         shape: outer,
         items,
     })
@@ -77,7 +77,7 @@ pub fn literal(alloc: Global, arrays: &[Array]) -> Result<Array, EvalFault>
     let Some(first) = arrays.first() else {
         return Err(EvalFault::Rule(WRONG_SHAPE));
     };
-    literal_like(alloc, first.kind, first.shape.items(), arrays)
+    literal_like(alloc, first.value_type, first.shape.items(), arrays)
 }
 
 // The same, where the first item has this type and this shape.

@@ -4,7 +4,7 @@ ghost use Rattle.std.specs.Prelude.{◌≡◌};
 ghost use Rattle.cdl_array.specs.Numbers.{millionths, numbers_of};
 
 use cdl_decimal::Real;
-use cdl_kinds::Value;
+use cdl_values::Value;
 
 /// Two numbers of one type.
 #[derive(Clone, Copy)]

@@ -1,7 +1,7 @@
 // Items and parts of arrays.
 ghost use Rattle.std.specs.Prelude.{◌≡◌, ◌≤◌, ◌+◌, ◌*◌, length, is_some, IfOk};
 ghost use Rattle.std.specs.Option.{option_copied};
-ghost use Rattle.cdl_kinds.specs.Values.{IsArray, items_of};
+ghost use Rattle.cdl_values.specs.Values.{IsArray, items_of};
 ghost use Rattle.cdl_array.specs.Outcomes.{Answers};
 ghost use Rattle.cdl_array.specs.Parts as spec;
 
@@ -9,9 +9,9 @@ use crate::fault::EvalFault;
 use crate::scalars::scalar_of;
 use crate::sizes::items_of;
 use crate::types::copy_shape;
-use cdl_kinds::{Array, Value};
 use cdl_source::rules::{NO_VALUE, WRONG_SHAPE, WRONG_TYPE};
 use cdl_source::{List, OutOfMemory};
+use cdl_values::{Array, Value};
 use std::alloc::Global;
 
 fn is_within(size: u32, index: u32) -> bool
@@ -133,7 +133,7 @@ fn item(alloc: Global, array: &Array, at: Option<usize>) -> Result<Array, EvalFa
     let mut items = List::new(alloc);
     items.push(value.copy(alloc)?)?;
     Ok(Array {
-        kind: array.kind,
+        value_type: array.value_type,
         shape: List::new(alloc),
         items,
     })
@@ -191,7 +191,7 @@ pub fn part(alloc: Global, array: &Array, indices: &[u32]) -> Result<Array, Eval
     let shape = copy_shape(alloc, rest)?;
     let items = copy_values(alloc, values)?;
     Ok(Array {
-        kind: array.kind,
+        value_type: array.value_type,
         shape,
         items,
     })

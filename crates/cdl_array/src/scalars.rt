@@ -5,8 +5,8 @@ ghost use Rattle.cdl_array.specs.Outcomes.{Answers, then_to};
 ghost use Rattle.cdl_array.specs.Scalars as spec;
 
 use crate::fault::EvalFault;
-use cdl_kinds::{Array, Value, ValueType};
 use cdl_source::List;
+use cdl_values::{Array, Value, ValueType};
 use std::alloc::Global;
 
 /// The value of a scalar. None: the array has sizes.
@@ -42,7 +42,7 @@ pub fn scalar(alloc: Global, value: Value) -> Result<Array, EvalFault>
     let mut items = List::new(alloc);
     items.push(value)?;
     Ok(Array {
-        kind: value_type,
+        value_type,
         shape: List::new(alloc),
         items,
     })

@@ -5,9 +5,9 @@ ghost use Rattle.cdl_array.specs.Types as spec;
 
 use crate::fault::EvalFault;
 use crate::numbers::real_of;
-use cdl_kinds::{Array, Value, ValueType};
 use cdl_source::rules::WRONG_TYPE;
 use cdl_source::{List, OutOfMemory};
+use cdl_values::{Array, Value, ValueType};
 use std::alloc::Global;
 
 #[tactic(auto, unfolding(crate::specs::Types::same_type))]
@@ -39,13 +39,15 @@ pub(crate) fn is_number(value_type: ValueType) -> bool
 fn have_type(value_type: ValueType, arrays: &[Array]) -> bool
     ensures { result ≡ spec.have_type value_type arrays.now }
 {
-    arrays.iter().all(|array| same_type(value_type, array.kind))
+    arrays
+        .iter()
+        .all(|array| same_type(value_type, array.value_type))
 }
 
 fn are_numbers(arrays: &[Array]) -> bool
     ensures { result ≡ spec.are_numbers arrays.now }
 {
-    arrays.iter().all(|array| is_number(array.kind))
+    arrays.iter().all(|array| is_number(array.value_type))
 }
 
 // The type of the arrays together, of which the first has this type.
@@ -104,16 +106,16 @@ pub(crate) fn copy_shape(alloc: Global, sizes: &[u32]) -> Result<List<u32>, OutO
 pub fn converted(alloc: Global, value_type: ValueType, array: &Array) -> Result<Array, EvalFault>
     ensures { Answers (spec.converted value_type array.now) result }
 {
-    if same_type(array.kind, value_type) {
+    if same_type(array.value_type, value_type) {
         return Ok(array.copy(alloc)?);
     }
-    match (array.kind, value_type) {
+    match (array.value_type, value_type) {
         (ValueType::Integer, ValueType::Real) => {
             let shape = copy_shape(alloc, array.shape.items())?;
             let mut items = List::new(alloc);
             push_as(alloc, &mut items, value_type, array.items.items())?;
             Ok(Array {
-                kind: value_type,
+                value_type,
                 shape,
                 items,
             })

@@ -1,8 +1,8 @@
 // Arrays as texts: a letter for the type, the sizes in brackets, a colon and the items. A star behind an item stands for as many
 // of it as the sizes say.
 use cdl_decimal::Real;
-use cdl_kinds::{Array, Value, ValueType};
 use cdl_source::{List, Text};
+use cdl_values::{Array, Value, ValueType};
 use std::alloc::{AllocError, Global};
 use std::test::Fail;
 
@@ -91,7 +91,7 @@ pub fn array(alloc: Global, text: &str) -> Result<Array, Fail> {
         }
     }
     Ok(Array {
-        kind: value_type,
+        value_type,
         shape,
         items,
     })
@@ -118,7 +118,7 @@ fn show_value(alloc: Global, value: &Value) -> Result<String, AllocError> {
 
 // The text of an array; of more than eight items the first stands for all.
 pub fn show(alloc: Global, array: &Array) -> Result<String, AllocError> {
-    let mut text = String::from_str(alloc, letter_of(array.kind))?;
+    let mut text = String::from_str(alloc, letter_of(array.value_type))?;
     for (i, size) in array.shape.items().iter().enumerate() {
         text.push_str(if i == 0 { "[" } else { "," })?;
         let size = format!(in alloc; "{size}")?;

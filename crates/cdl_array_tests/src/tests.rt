@@ -1,6 +1,6 @@
 // What each operator, literal, subscript, function, size and conversion answers.
 ghost use Rattle.std.specs.Prelude.{IfOk};
-ghost use Rattle.cdl_kinds.specs.Values.{IsArray};
+ghost use Rattle.cdl_values.specs.Values.{IsArray};
 
 use crate::arrays::{array, show};
 use crate::table::CASES;
@@ -8,9 +8,9 @@ use cdl_array::{
     EvalFault, Function, binary, call, condition, converted, count_of, decided, literal, part,
     size_of, subscript, unary,
 };
-use cdl_kinds::{Array, Value, ValueType};
 use cdl_source::{List, OutOfMemory};
 use cdl_tree::Op;
+use cdl_values::{Array, Value, ValueType};
 use std::alloc::Global;
 use std::test::Fail;
 
@@ -201,7 +201,7 @@ fn rows(alloc: Global) -> Result<Array, OutOfMemory>
     items.push(Value::Integer(8))?;
     items.push(Value::Integer(9))?;
     Ok(Array {
-        kind: ValueType::Integer,
+        value_type: ValueType::Integer,
         shape,
         items,
     })

@@ -1,16 +1,15 @@
 // Each kind without a memory on inputs at their edges. The expected words were worked out with exact fractions, apart from the program.
 ghost use Rattle.std.specs.Prelude.{◌≡◌, ◌+◌, ◌<◌, ◌≤◌, ℕ, IsTrue, length, true};
 ghost use Rattle.cdl_kinds.specs.Conditions.{Keeps};
-ghost use Rattle.cdl_kinds.specs.History.{AreReady, AreValues, IsValue, word};
+ghost use Rattle.cdl_values.specs.History.{AreReady, AreValues, IsValue, word};
 ghost use Rattle.cdl_kinds.specs.Ports.{inputs, outputs};
 ghost use Rattle.cdl_blocks.specs.MemorylessKinds.{is_memoryless};
 
 use crate::values::{numbers, values};
 use cdl_blocks::{AnyBlock, is_memoryless};
-use cdl_kinds::words::read;
-use cdl_kinds::{
-    Elementary, Kind, NoValue, Params, Steps, ValueType, check, find, port, port_count,
-};
+use cdl_kinds::{Elementary, Kind, Params, Steps, check, find, port, port_count};
+use cdl_values::words::read;
+use cdl_values::{NoValue, ValueType};
 use std::marker::Brand;
 use std::sync::ledger::{Blank, Ledger};
 use std::test::Fail;
@@ -85,10 +84,10 @@ const CASES: &str = "Logical.And;;0 0=0;0 1=0;1 0=0;1 1=1\n\
     Routing.RealScalarReplicator;4;5=5 5 5 5;-5=-5 -5 -5 -5;10000000000000000=10000000000000000 10000000000000000 10000000000000000 10000000000000000;0=0 0 0 0\n\
     Routing.RealScalarReplicator;1;9=9";
 
-fn is_value(kind: ValueType, w: i64) -> bool
-    ensures { IsTrue result → IsValue kind w }
+fn is_value(value_type: ValueType, w: i64) -> bool
+    ensures { IsTrue result → IsValue value_type w }
 {
-    match kind {
+    match value_type {
         ValueType::Boolean => w == 0 || w == 1,
         ValueType::Integer => w.unsigned_abs() <= 2_147_483_647,
         ValueType::Real => w.unsigned_abs() <= 10_000_000_000_000_000,
@@ -103,10 +102,10 @@ fn is_input(kind: Kind, params: &Params, ins: &[i64], i: usize) -> bool
     requires port { i < (inputs kind params.now).count + (outputs kind params.now).count }
     requires word { i < length ins.now }
     ensures within { IsTrue result → i < (inputs kind params.now).count }
-    ensures value { IsTrue result → IsValue ((inputs kind params.now).sort i) (word ins.now i) }
+    ensures value { IsTrue result → IsValue ((inputs kind params.now).value_type i) (word ins.now i) }
 {
     let p = port(kind, params, i);
-    p.input && is_value(p.kind, read(ins, i))
+    p.input && is_value(p.value_type, read(ins, i))
 }
 
 // Whether the words are values of the inputs, and there are as many outputs.

@@ -4,9 +4,10 @@ ghost use Rattle.cdl_kinds.specs.Conditions.{Keeps};
 
 use crate::values::{numbers, values};
 use cdl_kinds::{
-    Kind, Params, Port, Preset, Steps, ValueType, check, find, kind_name, parameters, port,
-    port_count,
+    Kind, Params, Port, Preset, Steps, check, find, kind_name, parameters, port, port_count,
+    state_words,
 };
+use cdl_values::ValueType;
 use std::alloc::{AllocError, Global};
 use std::marker::Brand;
 use std::sync::ledger::{Blank, Ledger};
@@ -14,7 +15,7 @@ use std::test::Fail;
 
 // Each kind with values of its parameters, and its inputs, its outputs and its parameters. A star is a port or a parameter
 // for each of nin or nout; a default is a Boolean, an Integer, a count of millionths, 1 for each input, or the value of
-// another parameter. An input that isn't direct has a ~.
+// another parameter. An input that isn't direct has a ~. The number of state words stands in parentheses where there are any.
 const ROWS: &str = "Logical.And;;u1:B u2:B > y:B\n\
     Logical.Or;;u1:B u2:B > y:B\n\
     Logical.Nand;;u1:B u2:B > y:B\n\
@@ -23,19 +24,19 @@ const ROWS: &str = "Logical.And;;u1:B u2:B > y:B\n\
     Logical.Not;;u:B > y:B\n\
     Logical.MultiAnd;3;u*:B > y:B | I nin\n\
     Logical.MultiOr;3;u*:B > y:B | I nin\n\
-    Logical.Edge;1;u:B > y:B | B pre_u_start=false\n\
-    Logical.FallingEdge;1;u:B > y:B | B pre_u_start=false\n\
-    Logical.Change;1;u:B > y:B | B pre_u_start=false\n\
-    Logical.Latch;;u:B clr:B > y:B\n\
-    Logical.Toggle;;u:B clr:B > y:B\n\
-    Logical.Pre;1;~u:B > y:B | B pre_u_start=false\n\
+    Logical.Edge;1;u:B > y:B | B pre_u_start=false (1)\n\
+    Logical.FallingEdge;1;u:B > y:B | B pre_u_start=false (1)\n\
+    Logical.Change;1;u:B > y:B | B pre_u_start=false (1)\n\
+    Logical.Latch;;u:B clr:B > y:B (2)\n\
+    Logical.Toggle;;u:B clr:B > y:B (2)\n\
+    Logical.Pre;1;~u:B > y:B | B pre_u_start=false (1)\n\
     Logical.Switch;;u1:B u2:B u3:B > y:B\n\
     Integers.Switch;;u1:I u2:B u3:I > y:I\n\
     Reals.Switch;;u1:R u2:B u3:R > y:R\n\
-    Logical.Timer;1;u:B > y:R passed:B | R t=0\n\
-    Logical.TimerAccumulating;1;u:B reset:B > y:R passed:B | R t=0\n\
-    Logical.TrueDelay;1 1;u:B > y:B | R delayTime, B delayOnInit=false\n\
-    Logical.TrueFalseHold;1 1;u:B > y:B | R trueHoldDuration, R falseHoldDuration=#0\n\
+    Logical.Timer;1;u:B > y:R passed:B | R t=0 (2)\n\
+    Logical.TimerAccumulating;1;u:B reset:B > y:R passed:B | R t=0 (4)\n\
+    Logical.TrueDelay;1 1;u:B > y:B | R delayTime, B delayOnInit=false (2)\n\
+    Logical.TrueFalseHold;1 1;u:B > y:B | R trueHoldDuration, R falseHoldDuration=#0 (2)\n\
     Logical.Sources.Constant;1;> y:B | B k\n\
     Integers.Sources.Constant;1;> y:I | I k\n\
     Reals.Sources.Constant;1;> y:R | R k\n\
@@ -58,8 +59,8 @@ const ROWS: &str = "Logical.And;;u1:B u2:B > y:B\n\
     Integers.GreaterEqualThreshold;1;u:I > y:B | I t=0\n\
     Integers.LessThreshold;1;u:I > y:B | I t=0\n\
     Integers.LessEqualThreshold;1;u:I > y:B | I t=0\n\
-    Integers.Change;1;u:I > y:B up:B down:B | I pre_u_start=0\n\
-    Integers.OnCounter;1;trigger:B reset:B > y:I | I y_start=0\n\
+    Integers.Change;1;u:I > y:B up:B down:B | I pre_u_start=0 (1)\n\
+    Integers.OnCounter;1;trigger:B reset:B > y:I | I y_start=0 (3)\n\
     Reals.Add;;u1:R u2:R > y:R\n\
     Reals.Subtract;;u1:R u2:R > y:R\n\
     Reals.Multiply;;u1:R u2:R > y:R\n\
@@ -73,23 +74,23 @@ const ROWS: &str = "Logical.And;;u1:B u2:B > y:B\n\
     Reals.MultiSum;3 1;u*:R > y:R | I nin, R k*=ones\n\
     Reals.MultiMax;3;u*:R > y:R | I nin\n\
     Reals.MultiMin;3;u*:R > y:R | I nin\n\
-    Reals.Greater;1 1;u1:R u2:R > y:B | R h=0, B pre_y_start=false\n\
-    Reals.Less;1 1;u1:R u2:R > y:B | R h=0, B pre_y_start=false\n\
-    Reals.GreaterThreshold;1 1 1;u:R > y:B | R t=0, R h=0, B pre_y_start=false\n\
-    Reals.LessThreshold;1 1 1;u:R > y:B | R t=0, R h=0, B pre_y_start=false\n\
-    Reals.Hysteresis;1 2 0;u:R > y:B | R uLow, R uHigh, B pre_y_start=false\n\
+    Reals.Greater;1 1;u1:R u2:R > y:B | R h=0, B pre_y_start=false (1)\n\
+    Reals.Less;1 1;u1:R u2:R > y:B | R h=0, B pre_y_start=false (1)\n\
+    Reals.GreaterThreshold;1 1 1;u:R > y:B | R t=0, R h=0, B pre_y_start=false (1)\n\
+    Reals.LessThreshold;1 1 1;u:R > y:B | R t=0, R h=0, B pre_y_start=false (1)\n\
+    Reals.Hysteresis;1 2 0;u:R > y:B | R uLow, R uHigh, B pre_y_start=false (1)\n\
     Reals.Limiter;2 1;u:R > y:R | R uMax, R uMin\n\
     Reals.Line;1 1;x1:R f1:R x2:R f2:R u:R > y:R | B limitBelow=true, B limitAbove=true\n\
     Conversions.BooleanToInteger;1 1;u:B > y:I | I integerTrue=1, I integerFalse=0\n\
     Conversions.BooleanToReal;1 1;u:B > y:R | R realTrue=1000000, R realFalse=0\n\
     Conversions.IntegerToReal;;u:I > y:R\n\
     Conversions.RealToInteger;;u:R > y:I\n\
-    Discrete.Sampler;1;u:R > y:R | R samplePeriod\n\
-    Discrete.ZeroOrderHold;1;u:R > y:R | R samplePeriod\n\
-    Discrete.UnitDelay;1 1;~u:R > y:R | R samplePeriod, R y_start=0\n\
-    Discrete.TriggeredSampler;1;u:R trigger:B > y:R | R y_start=0\n\
-    Discrete.TriggeredMax;;u:R trigger:B > y:R\n\
-    Discrete.TriggeredMovingMean;3;u:R trigger:B > y:R | I n\n\
+    Discrete.Sampler;1;u:R > y:R | R samplePeriod (2)\n\
+    Discrete.ZeroOrderHold;1;u:R > y:R | R samplePeriod (2)\n\
+    Discrete.UnitDelay;1 1;~u:R > y:R | R samplePeriod, R y_start=0 (3)\n\
+    Discrete.TriggeredSampler;1;u:R trigger:B > y:R | R y_start=0 (2)\n\
+    Discrete.TriggeredMax;;u:R trigger:B > y:R (3)\n\
+    Discrete.TriggeredMovingMean;3;u:R trigger:B > y:R | I n (6)\n\
     Routing.BooleanScalarReplicator;3;u:B > y*:B | I nout\n\
     Routing.IntegerScalarReplicator;3;u:I > y*:I | I nout\n\
     Routing.RealScalarReplicator;3;u:R > y*:R | I nout";
@@ -127,7 +128,7 @@ fn show_port(text: &mut String, port: Port) -> Result<(), AllocError> {
     text.push_str(port.name)?;
     text.push_str(star(port.index == 1))?;
     text.push_str(":")?;
-    text.push_str(letter(port.kind))?;
+    text.push_str(letter(port.value_type))?;
     text.push_str(" ")
 }
 
@@ -154,12 +155,22 @@ fn row_text(alloc: Global, kind: Kind, params: &Params) -> Result<String, AllocE
     show_ports(&mut text, kind, params)?;
     for (i, parameter) in parameters(kind).iter().enumerate() {
         text.push_str(if i == 0 { "| " } else { ", " })?;
-        text.push_str(letter(parameter.kind))?;
+        text.push_str(letter(parameter.value_type))?;
         text.push_str(" ")?;
         text.push_str(parameter.name)?;
         text.push_str(star(parameter.per_nin))?;
         let preset = preset_text(alloc, parameter.preset)?;
         text.push_str(preset.as_str())?;
+    }
+    let words = state_words(kind, params);
+    if words > 0 {
+        text.push_str(if parameters(kind).is_empty() {
+            "("
+        } else {
+            " ("
+        })?;
+        let number = format!(in alloc; "{words})")?;
+        text.push_str(number.as_str())?;
     }
     Ok(text)
 }

@@ -1,20 +1,21 @@
 // Values of parameters, from numbers.
 ghost use Rattle.std.specs.Prelude.{◌≡◌, ◌≤◌, ℤ, All, IfOk, IfSome, length, false, true, unsigned_abs};
 ghost use Rattle.cdl_kinds.specs.Conditions.{Fits, FitsRow, is_count};
-ghost use Rattle.cdl_kinds.specs.Parameters.{row_of};
-ghost use Rattle.cdl_kinds.specs.Values.{IsOf};
+ghost use Rattle.cdl_kinds.specs.Parameters.{parameter_row};
+ghost use Rattle.cdl_values.specs.Values.{IsOf};
 
 use cdl_decimal::Real;
-use cdl_kinds::{Array, Kind, Parameter, Value, ValueType, parameters};
+use cdl_kinds::{Kind, Parameter, parameters};
 use cdl_source::List;
+use cdl_values::{Array, Value, ValueType};
 use std::alloc::Global;
 use std::test::Fail;
 
 // The value of that type.
-fn value_of(kind: ValueType, n: i64) -> Option<Value>
-    ensures { IfSome result (λ x. IsOf kind x) }
+fn value_of(value_type: ValueType, n: i64) -> Option<Value>
+    ensures { IfSome result (λ x. IsOf value_type x) }
 {
-    match kind {
+    match value_type {
         ValueType::Boolean => Some(Value::Boolean(n == 1)),
         ValueType::Integer => {
             if -2_147_483_647 <= n && n <= 2_147_483_647 {
@@ -34,13 +35,13 @@ fn value_of(kind: ValueType, n: i64) -> Option<Value>
 // A scalar for the parameter.
 #[tactic(auto, using(crate::proofs::Fitting::scalar_fits))]
 fn scalar(alloc: Global, row: &Parameter, n: i64) -> Result<Array, Fail>
-    ensures { IfOk result (λ a. (nin : ℤ) → row.now.per_nin ≡ false → FitsRow nin (row_of row.now) a) }
+    ensures { IfOk result (λ a. (nin : ℤ) → row.now.per_nin ≡ false → FitsRow nin (parameter_row row.now) a) }
 {
-    let value = value_of(row.kind, n).ok_or("no value")?;
+    let value = value_of(row.value_type, n).ok_or("no value")?;
     let mut items = List::new(alloc);
     items.push(value)?;
     Ok(Array {
-        kind: row.kind,
+        value_type: row.value_type,
         shape: List::new(alloc),
         items,
     })
@@ -77,16 +78,16 @@ fn factor_count(nin: i32) -> usize
 // So many values: these, and the last of them again where they are fewer.
 fn factors(
     alloc: Global,
-    kind: ValueType,
+    value_type: ValueType,
     count: usize,
     numbers: &[i64],
 ) -> Result<List<Value>, Fail>
-    ensures { IfOk result (λ v. (All (IsOf kind) v) × (length v ≡ count)) }
+    ensures { IfOk result (λ v. (All (IsOf value_type) v) × (length v ≡ count)) }
 {
     let mut values = List::new(alloc);
     for i in 0..count {
         let n = *numbers.get(i).or(numbers.last()).ok_or("no factor")?;
-        let value = value_of(kind, n).ok_or("no value")?;
+        let value = value_of(value_type, n).ok_or("no value")?;
         values.push(value)?;
     }
     Ok(values)
@@ -95,13 +96,13 @@ fn factors(
 // The parameters of a sum: how many inputs, and the factors.
 fn sum_values(
     alloc: Global,
-    kind: ValueType,
+    value_type: ValueType,
     nin: i32,
     numbers: &[i64],
 ) -> Result<List<Array>, Fail>
     requires { unsigned_abs nin ≤ 2147483647 }
-    ensures integers { IfOk result (λ v. kind ≡ ValueType.Integer → Fits Kind.IntegersMultiSum v) }
-    ensures reals { IfOk result (λ v. kind ≡ ValueType.Real → Fits Kind.RealsMultiSum v) }
+    ensures integers { IfOk result (λ v. value_type ≡ ValueType.Integer → Fits Kind.IntegersMultiSum v) }
+    ensures reals { IfOk result (λ v. value_type ≡ ValueType.Real → Fits Kind.RealsMultiSum v) }
 {
     let count = factor_count(nin);
     let mut counts = List::new(alloc);
@@ -110,12 +111,16 @@ fn sum_values(
     shape.push(count as u32)?;
     let mut values = List::new(alloc);
     values.push(Array {
-        kind: ValueType::Integer,
+        value_type: ValueType::Integer,
         shape: List::new(alloc),
         items: counts,
     })?;
-    let items = factors(alloc, kind, count, numbers)?;
-    values.push(Array { kind, shape, items })?;
+    let items = factors(alloc, value_type, count, numbers)?;
+    values.push(Array {
+        value_type,
+        shape,
+        items,
+    })?;
     Ok(values)
 }
 

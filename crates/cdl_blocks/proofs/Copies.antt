@@ -2,8 +2,8 @@
 use Rattle.std.proofs.Common.{ℕ, suc, ◌<◌, ◌≡◌, refl, ℤ, List, [], ◌∷◌, length, replicate, arith}
 use Rattle.std.specs.Prelude.{pos}
 use Rattle.std.proofs.lemmas.List.{get_or-replicate, length-replicate}
-use Rattle.cdl_kinds.specs.declared.value.ValueType.{ValueType}
-use Rattle.cdl_kinds.specs.History.{AreValues, IsValue, word}
+use Rattle.cdl_values.specs.declared.value.ValueType.{ValueType}
+use Rattle.cdl_values.specs.History.{AreValues, IsValue, word}
 use Rattle.cdl_blocks.specs.Scalars.{copies}
 
 -- words that are all the same

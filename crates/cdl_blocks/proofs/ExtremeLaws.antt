@@ -4,9 +4,8 @@ use Rattle.std.proofs.Math.Seq.{drop-cons}
 use Rattle.std.specs.Prelude.{pos}
 use Rattle.std.proofs.lemmas.Int.{ints}
 use Rattle.cdl_decimal.specs.Near.{InRange}
-use Rattle.cdl_kinds.specs.History.{word}
-use Rattle.cdl_kinds.specs.Meaning.Integers.{greater_of, lesser_of}
-use Rattle.cdl_kinds.specs.Meaning.Reals.{greatest, least}
+use Rattle.cdl_values.specs.History.{word}
+use Rattle.cdl_values.specs.Extremes.{greater_of, lesser_of, greatest, least}
 
 greater_assoc : (a b c : ℤ) → greater_of a (greater_of b c) ≡ greater_of (greater_of a b) c
 greater_assoc a b c = grind (arith, ints)

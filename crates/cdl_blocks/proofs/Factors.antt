@@ -2,12 +2,12 @@
 use Rattle.std.proofs.Common.{ℕ, ◌≡◌, ◌<◌, ◌≤◌, ◌*◌, ℤ, List, [], ◌∷◌, length, true, None, arith}
 use Rattle.std.specs.Prelude.{pos, negsuc, unsigned_abs}
 use Rattle.std.proofs.lemmas.Int.{ints}
-use Rattle.cdl_kinds.specs.declared.value.Array.{Array}
+use Rattle.cdl_values.specs.declared.value.Array.{Array}
 use Rattle.cdl_kinds.specs.declared.kind.Kind.TheVariants.{IntegersMultiSum, RealsMultiSum}
 use Rattle.cdl_kinds.specs.Conditions.{Keeps, HasShape, first_broken, is_count}
-use Rattle.cdl_kinds.specs.Laws.{one_holds}
-use Rattle.cdl_kinds.specs.Ports.{size_of}
-use Rattle.cdl_kinds.specs.Values.{integer_at, items_at, items_of}
+use Rattle.cdl_kinds.proofs.Laws.{one_holds}
+use Rattle.cdl_kinds.specs.Ports.{nin_or_nout}
+use Rattle.cdl_values.specs.Values.{integer_at, items_at, items_of}
 
 count_small : (z : ℤ) → is_count z ≡ true → (0 < unsigned_abs z) × (unsigned_abs z ≤ 256)
 count_small (pos n) e = grind (arith, ints)
@@ -27,13 +27,13 @@ row_counted z shape n e has c =
     let k : n ≡ unsigned_abs z * 1 = rw s at c in
     omega arith
 
-pub integer_factors : (v : List Array) → Keeps IntegersMultiSum v → (length (items_at v 1) ≡ size_of v) × (size_of v ≤ 256)
+pub integer_factors : (v : List Array) → Keeps IntegersMultiSum v → (length (items_at v 1) ≡ nin_or_nout v) × (nin_or_nout v ≤ 256)
 integer_factors [] k = absurd k.fits.rows
 integer_factors (a ∷ []) k = absurd k.fits.rows.1
 integer_factors (a ∷ b ∷ []) k = (row_counted (integer_at (a ∷ b ∷ []) 0) b.shape (length b.items) k.holds k.fits.rows.1.0.shape k.fits.rows.1.0.array.count, few_inputs (integer_at (a ∷ b ∷ []) 0) k.holds)
 integer_factors (a ∷ b ∷ d ∷ v) k = absurd k.fits.rows.1.1
 
-pub real_factors : (v : List Array) → Keeps RealsMultiSum v → (length (items_at v 1) ≡ size_of v) × (size_of v ≤ 256)
+pub real_factors : (v : List Array) → Keeps RealsMultiSum v → (length (items_at v 1) ≡ nin_or_nout v) × (nin_or_nout v ≤ 256)
 real_factors [] k = absurd k.fits.rows
 real_factors (a ∷ []) k = absurd k.fits.rows.1
 real_factors (a ∷ b ∷ []) k = (row_counted (integer_at (a ∷ b ∷ []) 0) b.shape (length b.items) k.holds k.fits.rows.1.0.shape k.fits.rows.1.0.array.count, few_inputs (integer_at (a ∷ b ∷ []) 0) k.holds)

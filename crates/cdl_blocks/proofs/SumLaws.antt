@@ -4,9 +4,9 @@ use Rattle.std.proofs.Math.Seq.{drop-cons}
 use Rattle.std.specs.Prelude.{pos, ◌+ℤ◌, ◌*ℤ◌}
 use Rattle.std.proofs.lemmas.Int.{ints}
 use Rattle.cdl_decimal.specs.Counts.{dot}
-use Rattle.cdl_kinds.specs.History.{word}
-use Rattle.cdl_kinds.specs.Values.{integer_of}
-use Rattle.cdl_kinds.specs.declared.value.Value.{Value}
+use Rattle.cdl_values.specs.History.{word}
+use Rattle.cdl_values.specs.Values.{integer_of}
+use Rattle.cdl_values.specs.declared.value.Value.{Value}
 
 pub sum_step : (ks : List Value) (xs : List ℤ) (i : ℕ) (k : Value) (s r all : ℤ) → i < length ks → i < length xs → k ≡ get_or ks i k
     → s +ℤ dot (map integer_of (drop i ks)) (drop i xs) ≡ all → r ≡ s +ℤ integer_of k *ℤ word xs i

@@ -1,6 +1,6 @@
 -- The greatest and the least of many.
 use Rattle.std.specs.Prelude.{ℤ, List}
-use Rattle.cdl_kinds.specs.Meaning.Reals.{greatest, least}
+use Rattle.cdl_values.specs.Extremes.{greatest, least}
 use Rattle.cdl_blocks.specs.declared.extremes.ExtremeOp.{ExtremeOp}
 use Rattle.cdl_blocks.specs.declared.extremes.ExtremeOp.TheVariants.{Max, Min}
 

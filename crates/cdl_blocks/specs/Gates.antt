@@ -1,6 +1,6 @@
 -- What the gates compute.
 use Rattle.std.specs.Prelude.{Bool}
-use Rattle.cdl_kinds.specs.History.{Meaning}
+use Rattle.cdl_values.specs.History.{Meaning}
 use Rattle.cdl_kinds.specs.Meaning.Gates.{both, either, not_both, neither, just_one, all_on, any_on}
 use Rattle.cdl_blocks.specs.declared.gates.GateOp.{GateOp}
 use Rattle.cdl_blocks.specs.declared.gates.GateOp.TheVariants.{And, Or, Nand, Nor, Xor}

@@ -1,7 +1,8 @@
 -- What blocks of Integers compute.
 use Rattle.std.specs.Prelude.{ℤ, Bool}
-use Rattle.cdl_kinds.specs.History.{Meaning, integer, word}
-use Rattle.cdl_kinds.specs.Meaning.Integers.{sum_of, difference_of, product_of, greater_of, lesser_of, is_equal, is_greater, is_greater_equal, is_less, is_less_equal}
+use Rattle.cdl_values.specs.History.{Meaning, integer, word}
+use Rattle.cdl_kinds.specs.Meaning.Integers.{sum_of, difference_of, product_of, is_equal, is_greater, is_greater_equal, is_less, is_less_equal}
+use Rattle.cdl_values.specs.Extremes.{greater_of, lesser_of}
 use Rattle.cdl_blocks.specs.declared.integers.IntegerOp.{IntegerOp}
 use Rattle.cdl_blocks.specs.declared.integers.IntegerOp.TheVariants.{Add, Subtract, Multiply, Max, Min}
 use Rattle.cdl_blocks.specs.declared.integers.ComparisonOp.{ComparisonOp}

@@ -1,9 +1,9 @@
 -- What blocks of Reals compute, and magnitudes.
 use Rattle.std.specs.Prelude.{ℤ, Option, [], ◌∷◌}
 use Rattle.cdl_decimal.specs.Counts.{real_add, real_sub, real_mul, real_div, real_modulo, real_mean}
-use Rattle.cdl_kinds.specs.declared.value.ValueType.{ValueType}
-use Rattle.cdl_kinds.specs.declared.value.ValueType.TheVariants.{Integer as IntegerType, Real as RealType}
-use Rattle.cdl_kinds.specs.History.{Meaning, one, word}
+use Rattle.cdl_values.specs.declared.value.ValueType.{ValueType}
+use Rattle.cdl_values.specs.declared.value.ValueType.TheVariants.{Integer as IntegerType, Real as RealType}
+use Rattle.cdl_values.specs.History.{Meaning, one, word}
 use Rattle.cdl_kinds.specs.Meaning.Integers.{integer_of_one, magnitude}
 use Rattle.cdl_kinds.specs.Meaning.Reals.{absolute, greater, lesser, real_of_one}
 use Rattle.cdl_blocks.specs.declared.reals.Magnitude.{Magnitude}

@@ -1,8 +1,8 @@
 -- Values that blocks keep, as words.
 use Rattle.std.specs.Prelude.{ℕ, ℤ, Bool, true, cond}
-use Rattle.cdl_kinds.specs.declared.value.ValueType.{ValueType}
-use Rattle.cdl_kinds.specs.declared.value.ValueType.TheVariants.{Boolean as BooleanType, Integer as IntegerType, Real as RealType}
-use Rattle.cdl_kinds.specs.History.{Inputs, Meaning, bit}
+use Rattle.cdl_values.specs.declared.value.ValueType.{ValueType}
+use Rattle.cdl_values.specs.declared.value.ValueType.TheVariants.{Boolean as BooleanType, Integer as IntegerType, Real as RealType}
+use Rattle.cdl_values.specs.History.{Signature, Meaning, bit}
 use Rattle.cdl_kinds.specs.Meaning.Conversions.{choice}
 use Rattle.cdl_blocks.specs.declared.scalar.Scalar.{Scalar}
 use Rattle.cdl_blocks.specs.declared.scalar.Scalar.TheVariants.{Boolean, Integer, Real}
@@ -34,5 +34,5 @@ choice_meaning (IntegerChoice a b) = choice a b
 choice_meaning (RealChoice a b) = choice a b
 
 -- so many of one type
-abbrev pub copies : ValueType → ℕ → Inputs
-copies t n = record { count = n; sort = λ _. t; direct = λ _. true }
+abbrev pub copies : ValueType → ℕ → Signature
+copies t n = record { count = n; value_type = λ _. t; direct = λ _. true }

@@ -1,19 +1,20 @@
 // A block of any kind.
 ghost use Rattle.std.specs.Prelude.{◌≡◌, ◌↔◌, ℕ, ℤ, [], ◌∷◌, List, None, refl, true};
 ghost use Rattle.cdl_blocks.specs.declared.any_block.AnyBlock.TheVariants.{Memoryless};
-ghost use Rattle.cdl_kinds.specs.Laws.{by_all};
+ghost use Rattle.cdl_values.proofs.Laws.{by_all};
 ghost use Rattle.cdl_blocks.specs.AtOnce.{all_direct};
 ghost use Rattle.cdl_blocks.specs.MemorylessKinds.{is_memoryless};
 ghost use Rattle.cdl_kinds.specs.Conditions.{Keeps};
-ghost use Rattle.cdl_kinds.specs.Meanings.{Lacks, meaning};
+ghost use Rattle.cdl_kinds.specs.Meanings.{MayLack, meaning};
 ghost use Rattle.cdl_kinds.specs.Ports.{inputs, outputs};
-ghost use Rattle.cdl_kinds.specs.History.{History};
+ghost use Rattle.cdl_values.specs.History.{History};
 ghost use Rattle.cdl_kinds.specs.StateWords.{state_words};
 ghost use Rattle.cdl_kinds.specs.States.{IsSound, Stands};
 
 use crate::memoryless::Memoryless;
 use crate::memoryless_block::MemorylessBlock;
-use cdl_kinds::{Elementary, Kind, NoValue, Params, Steps};
+use cdl_kinds::{Elementary, Kind, Params, Steps};
+use cdl_values::NoValue;
 use std::sync::ledger::Ledger;
 
 /// A block of any kind.
@@ -43,7 +44,7 @@ impl AnyBlock {
         ensures meaning { ⟦<AnyBlock as Elementary>⟧.meaning result ≡ meaning kind params }
         ensures stands { (state : List ℤ) (h : History) → ⟦<AnyBlock as Elementary>⟧.stands result state h ↔ Stands kind params state h }
         ensures sound { (state : List ℤ) (last : ℤ) → ⟦<AnyBlock as Elementary>⟧.is_sound result state last ↔ IsSound kind params state last }
-        ensures lacks { (now : ℤ) (x : List ℤ) → ⟦<AnyBlock as Elementary>⟧.lacks result now x → Lacks kind params now x }
+        ensures lacks { (now : ℤ) (x : List ℤ) → ⟦<AnyBlock as Elementary>⟧.may_lack result now x → MayLack kind params now x }
     {
         AnyBlock::Memoryless(MemorylessBlock::new(kind, params))
     }
@@ -58,7 +59,7 @@ impl Elementary for AnyBlock {
 
     ghost meaning = { elim [ Memoryless b ↦ ⟦<MemorylessBlock as Elementary>⟧.meaning b ] };
 
-    ghost lacks = { elim [ Memoryless b ↦ ⟦<MemorylessBlock as Elementary>⟧.lacks b ] };
+    ghost may_lack = { elim [ Memoryless b ↦ ⟦<MemorylessBlock as Elementary>⟧.may_lack b ] };
 
     ghost stands = { elim [ Memoryless b ↦ ⟦<MemorylessBlock as Elementary>⟧.stands b ] };
 

@@ -1,15 +1,16 @@
 // The greatest and the least of many Reals.
 ghost use Rattle.std.specs.Prelude.{◌≡◌, ◌<◌, ◌≤◌, ℕ, length};
 ghost use Rattle.cdl_decimal.specs.Near.{InRange};
-ghost use Rattle.cdl_kinds.specs.History.{reals, word};
-ghost use Rattle.cdl_kinds.specs.Meaning.Reals.{extreme, greatest, least};
+ghost use Rattle.cdl_values.specs.History.{reals, word};
+ghost use Rattle.cdl_kinds.specs.Meaning.Reals.{extreme};
+ghost use Rattle.cdl_values.specs.Extremes.{greatest, least};
 ghost use Rattle.cdl_blocks.specs.AtOnce.{at_once};
 ghost use Rattle.cdl_blocks.specs.Extremes.{extreme_function};
 
 use crate::integers::{greater, lesser};
 use crate::memoryless::Memoryless;
-use cdl_kinds::NoValue;
-use cdl_kinds::words::put_one;
+use cdl_values::NoValue;
+use cdl_values::words::put_one;
 
 /// Which of many Reals a block gives.
 #[derive(Clone, Copy, Drop)]

@@ -1,14 +1,14 @@
 // Gates and switches.
 ghost use Rattle.std.specs.Prelude.{◌≡◌, [], ◌∷◌};
-ghost use Rattle.cdl_kinds.specs.declared.value.ValueType.TheVariants.{Boolean};
-ghost use Rattle.cdl_kinds.specs.History.{booleans, typed};
+ghost use Rattle.cdl_values.specs.declared.value.ValueType.TheVariants.{Boolean};
+ghost use Rattle.cdl_values.specs.History.{booleans, typed};
 ghost use Rattle.cdl_kinds.specs.Meaning.Gates.{gate, negation, switch};
 ghost use Rattle.cdl_blocks.specs.AtOnce.{at_once};
 ghost use Rattle.cdl_blocks.specs.Gates.{gate_function, multi_gate};
 
 use crate::memoryless::Memoryless;
-use cdl_kinds::words::{all_on, any_on, bit, is_on, put_one, read};
-use cdl_kinds::{NoValue, ValueType};
+use cdl_values::words::{all_on, any_on, bit, is_on, put_one, read};
+use cdl_values::{NoValue, ValueType};
 
 /// What a gate of two Booleans computes.
 #[derive(Clone, Copy, Drop)]
@@ -103,13 +103,13 @@ impl Memoryless for MultiGate {
 /// A switch between two inputs of one type: the first where the second, a Boolean, is true, else the third.
 #[derive(Clone, Copy, Drop)]
 pub struct Switch {
-    pub sort: ValueType,
+    pub value_type: ValueType,
 }
 
 impl Memoryless for Switch {
-    ghost inputs = { λ b. typed (b.sort ∷ Boolean ∷ b.sort ∷ []) };
+    ghost inputs = { λ b. typed (b.value_type ∷ Boolean ∷ b.value_type ∷ []) };
 
-    ghost results = { λ b. typed (b.sort ∷ []) };
+    ghost results = { λ b. typed (b.value_type ∷ []) };
 
     ghost gives = { λ _. at_once switch };
 

@@ -1,15 +1,16 @@
 // Blocks of Integers, and comparisons of them.
 ghost use Rattle.std.specs.Prelude.{◌≡◌, ◌≤◌, ◌*ℤ◌, [], ◌∷◌, unsigned_abs, ◌^◌, ◌<◌};
-ghost use Rattle.cdl_kinds.specs.declared.value.ValueType.TheVariants.{Integer};
-ghost use Rattle.cdl_kinds.specs.History.{booleans, integers, typed};
-ghost use Rattle.cdl_kinds.specs.Meaning.Integers.{compare, compare_threshold, greater_of, integer_of_two, lesser_of};
+ghost use Rattle.cdl_values.specs.declared.value.ValueType.TheVariants.{Integer};
+ghost use Rattle.cdl_values.specs.History.{booleans, integers, typed};
+ghost use Rattle.cdl_kinds.specs.Meaning.Integers.{compare, compare_threshold, integer_of_two};
+ghost use Rattle.cdl_values.specs.Extremes.{greater_of, lesser_of};
 ghost use Rattle.cdl_blocks.specs.AtOnce.{at_once};
 ghost use Rattle.cdl_blocks.specs.Integers.{comparison_function, integer_function, integer_with};
 
 use crate::memoryless::Memoryless;
 use crate::whole::Whole;
-use cdl_kinds::NoValue;
-use cdl_kinds::words::{bit, put_integer, put_one, read};
+use cdl_values::NoValue;
+use cdl_values::words::{bit, put_integer, put_one, read};
 
 /// What a block of two Integers computes.
 #[derive(Clone, Copy, Drop)]

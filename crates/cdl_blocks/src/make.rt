@@ -2,9 +2,9 @@
 ghost use Rattle.std.specs.Prelude.{◌≡◌, ◌↔◌, ◌<◌, ℤ, List, true};
 ghost use Rattle.cdl_kinds.specs.declared.kind.Kind.TheVariants.{IntegersMultiSum, RealsMultiSum};
 ghost use Rattle.cdl_kinds.specs.Conditions.{Keeps};
-ghost use Rattle.cdl_kinds.specs.Meanings.{Lacks, meaning};
-ghost use Rattle.cdl_kinds.specs.Ports.{inputs, outputs, size_of};
-ghost use Rattle.cdl_kinds.specs.History.{History};
+ghost use Rattle.cdl_kinds.specs.Meanings.{MayLack, meaning};
+ghost use Rattle.cdl_kinds.specs.Ports.{inputs, outputs, nin_or_nout};
+ghost use Rattle.cdl_values.specs.History.{History};
 ghost use Rattle.cdl_kinds.specs.StateWords.{state_words};
 ghost use Rattle.cdl_kinds.specs.States.{IsSound, Stands};
 ghost use Rattle.cdl_blocks.specs.MemorylessKinds.{is_memoryless};
@@ -20,7 +20,8 @@ use crate::scalar::Scalar;
 use crate::sources::{Choice, Constant, IntegerToReal, RealToInteger, Replicator};
 use crate::sums::{IntegerSum, RealSum};
 use crate::whole::Whole;
-use cdl_kinds::{Elementary, Kind, Params, ValueType};
+use cdl_kinds::{Elementary, Kind, Params};
+use cdl_values::ValueType;
 
 /// Whether the blocks of the kind have no memory: they have no state words, and don't look at the time.
 pub fn is_memoryless(kind: Kind) -> bool
@@ -110,9 +111,9 @@ pub fn is_memoryless(kind: Kind) -> bool
 
 // The extreme of as many inputs as the first parameter says.
 fn extreme(op: ExtremeOp, params: &Params) -> Extreme
-    requires { 0 < size_of params.now }
+    requires { 0 < nin_or_nout params.now }
     ensures op { result.op ≡ op }
-    ensures nin { result.nin ≡ size_of params.now }
+    ensures nin { result.nin ≡ nin_or_nout params.now }
 {
     Extreme {
         op,
@@ -149,7 +150,7 @@ impl MemorylessBlock {
         ensures meaning { ⟦<MemorylessBlock as Elementary>⟧.meaning result ≡ meaning kind params }
         ensures stands { (state : List ℤ) (h : History) → ⟦<MemorylessBlock as Elementary>⟧.stands result state h ↔ Stands kind params state h }
         ensures sound { (state : List ℤ) (last : ℤ) → ⟦<MemorylessBlock as Elementary>⟧.is_sound result state last ↔ IsSound kind params state last }
-        ensures lacks { (now : ℤ) (x : List ℤ) → ⟦<MemorylessBlock as Elementary>⟧.lacks result now x → Lacks kind params now x }
+        ensures lacks { (now : ℤ) (x : List ℤ) → ⟦<MemorylessBlock as Elementary>⟧.may_lack result now x → MayLack kind params now x }
     {
         match kind {
             Kind::LogicalAnd => MemorylessBlock::Gate(Gate { op: GateOp::And }),
@@ -173,13 +174,13 @@ impl MemorylessBlock {
             Kind::LogicalToggle => unreachable!(),
             Kind::LogicalPre => unreachable!(),
             Kind::LogicalSwitch => MemorylessBlock::Switch(Switch {
-                sort: ValueType::Boolean,
+                value_type: ValueType::Boolean,
             }),
             Kind::IntegersSwitch => MemorylessBlock::Switch(Switch {
-                sort: ValueType::Integer,
+                value_type: ValueType::Integer,
             }),
             Kind::RealsSwitch => MemorylessBlock::Switch(Switch {
-                sort: ValueType::Real,
+                value_type: ValueType::Real,
             }),
             Kind::LogicalTimer => unreachable!(),
             Kind::LogicalTimerAccumulating => unreachable!(),
@@ -313,15 +314,15 @@ impl MemorylessBlock {
             Kind::DiscreteTriggeredMax => unreachable!(),
             Kind::DiscreteTriggeredMovingMean => unreachable!(),
             Kind::RoutingBooleanScalarReplicator => MemorylessBlock::Replicator(Replicator {
-                sort: ValueType::Boolean,
+                value_type: ValueType::Boolean,
                 nout: params.size(),
             }),
             Kind::RoutingIntegerScalarReplicator => MemorylessBlock::Replicator(Replicator {
-                sort: ValueType::Integer,
+                value_type: ValueType::Integer,
                 nout: params.size(),
             }),
             Kind::RoutingRealScalarReplicator => MemorylessBlock::Replicator(Replicator {
-                sort: ValueType::Real,
+                value_type: ValueType::Real,
                 nout: params.size(),
             }),
         }

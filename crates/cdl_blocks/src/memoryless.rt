@@ -1,17 +1,17 @@
 // Blocks without a memory.
 ghost use Rattle.std.specs.Prelude.{◌≡◌, ℤ, List, Option, length, Some, None, MatchResult, OnOk};
-ghost use Rattle.cdl_kinds.specs.History.{Inputs, AreValues};
+ghost use Rattle.cdl_values.specs.History.{Signature, AreValues};
 
-use cdl_kinds::NoValue;
+use cdl_values::NoValue;
 
 /// A block without a memory: its outputs at a tick rest on its inputs at that tick alone, not on the time nor on the ticks before.
 /// It takes no memory of the machine either.
 pub trait Memoryless {
     /// Its inputs: how many, and their types. Each is direct.
-    ghost inputs: { Self → Inputs };
+    ghost inputs: { Self → Signature };
 
     /// Its outputs.
-    ghost results: { Self → Inputs };
+    ghost results: { Self → Signature };
 
     /// What it gives for these inputs, or none.
     ghost gives: { Self → List ℤ → Option (List ℤ) };

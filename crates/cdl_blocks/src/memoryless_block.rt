@@ -1,7 +1,7 @@
 // A block of any kind without a memory.
 ghost use Rattle.std.specs.Prelude.{◌≡◌, ℕ, ℤ, [], ◌∷◌, List, None, refl, true};
 ghost use Rattle.cdl_blocks.specs.declared.memoryless_block.MemorylessBlock.TheVariants.{Gate, Not, MultiGate, Switch, Constant, Choice, IntegerToReal, RealToInteger, Replicator, Magnitude, IntegerArithmetic, IntegerWithParameter, IntegerSum, Comparison, Threshold, RealArithmetic, RealWithParameter, RealSum, Extreme, Limiter, Line};
-ghost use Rattle.cdl_kinds.specs.Laws.{by_all};
+ghost use Rattle.cdl_values.proofs.Laws.{by_all};
 ghost use Rattle.cdl_blocks.specs.AtOnce.{all_direct};
 
 use crate::extremes::Extreme;
@@ -11,7 +11,8 @@ use crate::memoryless::Memoryless;
 use crate::reals::{Limiter, Line, Magnitude, RealArithmetic, RealWithParameter};
 use crate::sources::{Choice, Constant, IntegerToReal, RealToInteger, Replicator};
 use crate::sums::{IntegerSum, RealSum};
-use cdl_kinds::{Elementary, NoValue, Steps};
+use cdl_kinds::{Elementary, Steps};
+use cdl_values::NoValue;
 use std::sync::ledger::Ledger;
 
 /// A block of any kind without a memory.
@@ -89,7 +90,7 @@ impl Elementary for MemorylessBlock {
 
     ghost meaning = { λ b _ _ x. ⟦<MemorylessBlock as Memoryless>⟧.gives b x };
 
-    ghost lacks = { λ b _ x. ⟦<MemorylessBlock as Memoryless>⟧.gives b x ≡ None };
+    ghost may_lack = { λ b _ x. ⟦<MemorylessBlock as Memoryless>⟧.gives b x ≡ None };
 
     ghost stands = { λ _ state _. state ≡ [] };
 

@@ -1,8 +1,8 @@
 // Blocks of Reals.
 ghost use Rattle.std.specs.Prelude.{◌≡◌, [], ◌∷◌};
-ghost use Rattle.cdl_kinds.specs.declared.value.ValueType.TheVariants.{Real};
-ghost use Rattle.cdl_kinds.specs.History.{reals, typed};
-ghost use Rattle.cdl_kinds.specs.Meaning.Integers.{greater_of, lesser_of};
+ghost use Rattle.cdl_values.specs.declared.value.ValueType.TheVariants.{Real};
+ghost use Rattle.cdl_values.specs.History.{reals, typed};
+ghost use Rattle.cdl_values.specs.Extremes.{greater_of, lesser_of};
 ghost use Rattle.cdl_kinds.specs.Meaning.Reals.{limited, limiter, line_through, real_of_two};
 ghost use Rattle.cdl_blocks.specs.AtOnce.{at_once};
 ghost use Rattle.cdl_blocks.specs.Reals.{magnitude_meaning, magnitude_sort, real_function, real_with};
@@ -10,8 +10,8 @@ ghost use Rattle.cdl_blocks.specs.Reals.{magnitude_meaning, magnitude_sort, real
 use crate::integers::{greater, lesser};
 use crate::memoryless::Memoryless;
 use cdl_decimal::{Real, line, mean};
-use cdl_kinds::words::{put_integer, put_one, put_real, read, read_real};
-use cdl_kinds::{NoValue, ValueType};
+use cdl_values::words::{put_integer, put_one, put_real, read, read_real};
+use cdl_values::{NoValue, ValueType};
 
 /// What a block of two Reals computes. A modulo is what is left of the first after whole steps of the second.
 #[derive(Clone, Copy, Drop)]

@@ -1,11 +1,11 @@
 // Values that blocks keep.
 ghost use Rattle.std.specs.Prelude.{◌≡◌, ◌≤◌, unsigned_abs};
-ghost use Rattle.cdl_kinds.specs.History.{IsValue};
+ghost use Rattle.cdl_values.specs.History.{IsValue};
 ghost use Rattle.cdl_blocks.specs.Scalars.{scalar_sort, scalar_word};
 
 use crate::whole::Whole;
 use cdl_decimal::Real;
-use cdl_kinds::words::bit;
+use cdl_values::words::bit;
 
 /// A value of an input or an output.
 #[derive(Clone, Copy, Drop)]

@@ -1,7 +1,7 @@
 // Constants, and blocks that hand a value on.
 ghost use Rattle.std.specs.Prelude.{◌≡◌, [], ◌∷◌, length, replicate};
-ghost use Rattle.cdl_kinds.specs.declared.value.ValueType.TheVariants.{Integer, Real};
-ghost use Rattle.cdl_kinds.specs.History.{booleans, integers, reals, typed, IsValue};
+ghost use Rattle.cdl_values.specs.declared.value.ValueType.TheVariants.{Integer, Real};
+ghost use Rattle.cdl_values.specs.History.{booleans, integers, reals, typed, IsValue};
 ghost use Rattle.cdl_kinds.specs.Meaning.Conversions.{constant, integer_to_real, replicator, to_nearest_integer};
 ghost use Rattle.cdl_decimal.specs.Counts.{real_to_integer};
 ghost use Rattle.cdl_blocks.specs.AtOnce.{at_once};
@@ -11,8 +11,8 @@ use crate::memoryless::Memoryless;
 use crate::scalar::Scalar;
 use crate::whole::Whole;
 use cdl_decimal::Real;
-use cdl_kinds::words::{is_on, put_one, read, read_real};
-use cdl_kinds::{NoValue, ValueType};
+use cdl_values::words::{is_on, put_one, read, read_real};
+use cdl_values::{NoValue, ValueType};
 
 /// A constant.
 #[derive(Clone, Copy, Drop)]
@@ -121,7 +121,7 @@ impl Memoryless for RealToInteger {
 /// Its input, `nout` times.
 #[derive(Clone, Copy, Drop)]
 pub struct Replicator {
-    pub sort: ValueType,
+    pub value_type: ValueType,
     pub nout: usize,
 }
 
@@ -136,9 +136,9 @@ fn fill(words: &mut [i64], w: i64)
 }
 
 impl Memoryless for Replicator {
-    ghost inputs = { λ b. typed (b.sort ∷ []) };
+    ghost inputs = { λ b. typed (b.value_type ∷ []) };
 
-    ghost results = { λ b. copies b.sort b.nout };
+    ghost results = { λ b. copies b.value_type b.nout };
 
     ghost gives = { λ b. at_once (replicator b.nout) };
 

@@ -2,17 +2,18 @@
 ghost use Rattle.std.specs.Prelude.{◌≡◌, ◌+◌, pos, ◌<◌, ◌≤◌, ◌+ℤ◌, ◌*ℤ◌, ℕ, ℤ, [], length, map, take, unsigned_abs, MatchResult, Some, None};
 ghost use Rattle.cdl_decimal.specs.Counts.{dot};
 ghost use Rattle.cdl_decimal.specs.Near.{InRange};
-ghost use Rattle.cdl_kinds.specs.History.{integer, integers, reals, word};
+ghost use Rattle.cdl_values.specs.History.{integer, integers, reals, word};
 ghost use Rattle.cdl_kinds.specs.Meaning.Integers.{integer_multi_sum};
 ghost use Rattle.cdl_kinds.specs.Meaning.Reals.{real_multi_sum};
-ghost use Rattle.cdl_kinds.specs.Ports.{size_of};
-ghost use Rattle.cdl_kinds.specs.Values.{integer_of, integers_at, items_at, real_of, reals_at};
+ghost use Rattle.cdl_kinds.specs.Ports.{nin_or_nout};
+ghost use Rattle.cdl_values.specs.Values.{integer_of, integers_at, items_at, real_of, reals_at};
 ghost use Rattle.cdl_blocks.specs.AtOnce.{at_once};
 
 use crate::memoryless::Memoryless;
 use cdl_decimal::{Real, weighted_sum};
-use cdl_kinds::words::{put_one, put_real, read_real};
-use cdl_kinds::{NoValue, Params, Value};
+use cdl_kinds::Params;
+use cdl_values::words::{put_one, put_real, read_real};
+use cdl_values::{NoValue, Value};
 
 // The factors: the items of the second parameter.
 fn factors(params: &Params) -> &[Value]
@@ -86,12 +87,12 @@ fn put_wide(words: &mut [i64], z: i128) -> Result<(), NoValue>
 #[derive(Drop)]
 pub struct IntegerSum {
     pub params: Params,
-    pub ghost factors: { length (items_at params 1) ≡ size_of params },
-    pub ghost few: { size_of params ≤ 256 },
+    pub ghost factors: { length (items_at params 1) ≡ nin_or_nout params },
+    pub ghost few: { nin_or_nout params ≤ 256 },
 }
 
 impl Memoryless for IntegerSum {
-    ghost inputs = { λ b. integers (size_of b.params) };
+    ghost inputs = { λ b. integers (nin_or_nout b.params) };
 
     ghost results = { λ _. integers 1 };
 
@@ -150,12 +151,12 @@ fn real_factors(factors: &[Value]) -> [Real; 256]
 #[derive(Drop)]
 pub struct RealSum {
     pub params: Params,
-    pub ghost factors: { length (items_at params 1) ≡ size_of params },
-    pub ghost few: { size_of params ≤ 256 },
+    pub ghost factors: { length (items_at params 1) ≡ nin_or_nout params },
+    pub ghost few: { nin_or_nout params ≤ 256 },
 }
 
 impl Memoryless for RealSum {
-    ghost inputs = { λ b. reals (size_of b.params) };
+    ghost inputs = { λ b. reals (nin_or_nout b.params) };
 
     ghost results = { λ _. reals 1 };
 

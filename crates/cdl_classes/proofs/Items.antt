@@ -7,7 +7,7 @@ use Rattle.std.specs.Str.{bytes_eq}
 use Rattle.cdl_source.specs.declared.place.Place.{Place}
 use Rattle.cdl_kinds.specs.declared.kind.Kind.{Kind}
 use Rattle.cdl_kinds.specs.Names.{kinds, found}
-use Rattle.cdl_kinds.specs.declared.value.ValueType.TheVariants as type
+use Rattle.cdl_values.specs.declared.value.ValueType.TheVariants as type
 use Rattle.std.proofs.lemmas.Bool.{cases_Bool}
 use Rattle.cdl_tree.specs.declared.class.Item.{Item}
 use Rattle.cdl_tree.specs.declared.class.ClassTree.{ClassTree}

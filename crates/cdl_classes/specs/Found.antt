@@ -3,7 +3,7 @@ use Rattle.std.specs.Prelude.{◌+◌, ℕ, true, false, ◌&&◌, List, [], ◌
 use Rattle.std.specs.Str.{bytes_eq}
 use Rattle.cdl_kinds.specs.declared.kind.Kind.{Kind}
 use Rattle.cdl_kinds.specs.Names.{kinds, found}
-use Rattle.cdl_kinds.specs.declared.value.ValueType.TheVariants as type
+use Rattle.cdl_values.specs.declared.value.ValueType.TheVariants as type
 use Rattle.cdl_classes.specs.declared.found.Found.{Found}
 use Rattle.cdl_classes.specs.declared.found.Found.TheVariants as it
 use Rattle.cdl_classes.specs.declared.found.ValueFound.{ValueFound}

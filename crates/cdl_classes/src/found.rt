@@ -5,8 +5,9 @@ ghost use Rattle.cdl_classes.specs.Found as spec;
 ghost use Rattle.cdl_kinds.specs.Names.{kinds, found as kind_found};
 
 use arrayvec::ArrayVec;
-use cdl_kinds::{Kind, ValueType, find};
+use cdl_kinds::{Kind, find};
 use cdl_tree::Ident;
+use cdl_values::ValueType;
 
 /// The number of a declared class: a block, a package or an enumeration. They are numbered from 0, by file, then in the order of the
 /// text.
@@ -23,7 +24,7 @@ pub enum Found {
     /// A kind of the library.
     Kind(Kind),
     /// A connector of the library.
-    Connector { kind: ValueType, input: bool },
+    Connector { value_type: ValueType, input: bool },
     /// Real, Integer, Boolean or String, or `Modelica.Units.SI.X` or `Modelica.SIunits.X`, which are Real.
     Scalar(ValueType),
     /// A package that exists and is not declared.
@@ -48,7 +49,7 @@ const LONGEST: usize = 64;
 fn connector_named(name: &[u8]) -> Option<Found>
     ensures { result ≡ spec.connector_named name.now }
 {
-    let (kind, input) = if name == b"BooleanInput".as_slice() {
+    let (value_type, input) = if name == b"BooleanInput".as_slice() {
         (ValueType::Boolean, true)
     } else if name == b"BooleanOutput".as_slice() {
         (ValueType::Boolean, false)
@@ -63,7 +64,7 @@ fn connector_named(name: &[u8]) -> Option<Found>
     } else {
         return None;
     };
-    Some(Found::Connector { kind, input })
+    Some(Found::Connector { value_type, input })
 }
 
 // The connector of this name below the library's package.

@@ -14,7 +14,8 @@ use Rattle.cdl_lex.specs.Splits.{Splits}
 use Rattle.cdl_lex.specs.TokenList.{TokenList, longest_text}
 use Rattle.cdl_tree.specs.declared.class.FileTree.{FileTree}
 use Rattle.cdl_tree.specs.Terminals.{lexemes}
-use Rattle.cdl_parse.specs.Verdict.{Closes, IsTree, IsRefused, word_of}
+use Rattle.cdl_parse.specs.Verdict.{Closes, IsTree, IsRefused}
+use Rattle.cdl_reading.specs.Reading.{word_of}
 use Rattle.cdl_parse.specs.declared.ParseFault.TheVariants.{Rule}
 use Rattle.cdl_command.specs.inner.Reads.{stop_of, IsShortHead}
 use Rattle.cdl_command.specs.inner.Stops.{FaultIsAnswered, Stops, RefusesText, refusal_at}

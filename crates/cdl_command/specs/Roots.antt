@@ -4,7 +4,7 @@ use Rattle.std.specs.Option.{option_map}
 use Rattle.cdl_tree.specs.declared.class.ClassTree.{ClassTree}
 use Rattle.cdl_tree.specs.declared.class.FileTree.{FileTree}
 use Rattle.cdl_tree.specs.declared.class.Item.{Item}
-use Rattle.cdl_tree.specs.Parts.{items_of, connects_of}
+use Rattle.cdl_tree.specs.Parts.{items_of, statements_of}
 use Rattle.cdl_classes.specs.declared.found.ClassId.{ClassId}
 use Rattle.cdl_classes.specs.declared.found.Found.{Found}
 use Rattle.cdl_classes.specs.declared.found.Found.TheVariants as found
@@ -14,7 +14,7 @@ use Rattle.cdl_classes.specs.Table.{block_of as block_named}
 use Rattle.cdl_scopes.specs.Classes.{cut}
 use Rattle.cdl_classes.specs.Verdict.{IsUnbroken}
 use Rattle.cdl_flat.specs.Blocks.{Block, block_of}
-use Rattle.cdl_flat.specs.Flat.{IsFlat}
+use Rattle.cdl_flat.specs.Flat.{IsFlatBlock, connects_in}
 use Rattle.cdl_flat.specs.declared.part.Part.{Part}
 use Rattle.cdl_flat.specs.declared.part.Part.TheVariants as part
 
@@ -37,8 +37,8 @@ pub record IsRoot (class : List ℕ) (trees : List FileTree) (root : ClassId) (t
 
 -- The items and statements of the root are those of a flat block.
 abbrev pub IsFlatRoot : List Declared → ClassId → ClassTree → Type 0
-IsFlatRoot classes root tree = IsFlat (items_of tree) (parts_in classes root.index (items_of tree)) (connects_of tree)
+IsFlatRoot classes root tree = IsFlatBlock (items_of tree) (parts_in classes root.index (items_of tree)) (statements_of tree)
 
 -- the flat block of the root
 abbrev pub flat_root : List Declared → ClassId → ClassTree → Block
-flat_root classes root tree = block_of (items_of tree) (parts_in classes root.index (items_of tree)) (connects_of tree)
+flat_root classes root tree = block_of (items_of tree) (parts_in classes root.index (items_of tree)) (connects_in (statements_of tree))

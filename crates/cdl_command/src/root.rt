@@ -63,8 +63,18 @@ fn part_of(found: Option<Found>) -> Option<Part>
     ensures { result ≡ spec.part_of found }
 {
     match found {
-        Some(Found::Connector { kind, input: true }) => Some(Part::Input(kind)),
-        Some(Found::Connector { kind, input: false }) => Some(Part::Output(kind)),
+        Some(
+            Found::Connector {
+                value_type,
+                input: true,
+            },
+        ) => Some(Part::Input(value_type)),
+        Some(
+            Found::Connector {
+                value_type,
+                input: false,
+            },
+        ) => Some(Part::Output(value_type)),
         Some(Found::Kind(kind)) => Some(Part::Component(kind)),
         Some(Found::Class(_) | Found::Scalar(_) | Found::Package | Found::Unsupported) | None => {
             None
@@ -97,7 +107,7 @@ pub(crate) fn flat_of(alloc: Global, root: &Root) -> Result<Flat<'_>, Stop>
 {
     let tree = root.classes.tree(root.id);
     let parts = parts_of(alloc, &root.classes, root.id, tree.items())?;
-    match Flat::of(alloc, tree.items(), parts.as_slice(), tree.connects())? {
+    match Flat::of(alloc, tree.items(), parts.as_slice(), tree.statements())? {
         Some(flat) => Ok(flat),
         None => Err(refused_root(alloc, NOT_BUILT)),
     }

@@ -1,13 +1,14 @@
 // Flat blocks from trees made by hand, and their runs. The expected words were worked out apart from the program.
 ghost use Rattle.std.specs.Prelude.{◌≡◌, ◌<◌, IfOk, length};
-ghost use Rattle.cdl_kinds.specs.History.{IsTime};
+ghost use Rattle.cdl_values.specs.History.{IsTime};
 ghost use Rattle.cdl_table.specs.Values.{AreValues, HaveValues};
 
 use cdl_flat::{Flat, Part, Runner};
-use cdl_kinds::{Steps, ValueType, find};
+use cdl_kinds::{Steps, find};
 use cdl_source::{List, Span, Text};
 use cdl_table::Table;
 use cdl_tree::{Connect, Dim, Ident, Item, Name, Part as Step, Prefix, Ref, Sub};
+use cdl_values::ValueType;
 use std::alloc::Global;
 use std::marker::Brand;
 use std::sync::ledger::{Blank, Ledger};

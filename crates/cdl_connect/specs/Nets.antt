@@ -1,7 +1,7 @@
 -- The network of a net: the names of its instances and elements are their places.
 use Rattle.std.specs.Prelude.{ℕ, ◌-◌, ◌==◌, Bool, true, false, [], map, length, Option, Some, None, slice_get, slice_index_or}
-use Rattle.cdl_kinds.specs.declared.value.ValueType.TheVariants.{Boolean}
-use Rattle.cdl_kinds.specs.History.{Meaning}
+use Rattle.cdl_values.specs.declared.value.ValueType.TheVariants.{Boolean}
+use Rattle.cdl_values.specs.History.{Meaning}
 use Rattle.cdl_kinds.specs.Meanings.{meaning}
 use Rattle.cdl_kinds.specs.Ports.{inputs}
 use Rattle.cdl_kinds.specs.StateWords.{state_words}

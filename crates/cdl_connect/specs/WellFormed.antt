@@ -2,10 +2,10 @@
 use Rattle.std.specs.Prelude.{ℕ, zero, suc, ◌+◌, ◌<◌, ◌≤◌, ◌≡◌, ◌==◌, ◌&&◌, ◌||◌, nat_le, nat_lt, Bool, true, false, cond, List, [], ◌∷◌, ◌++◌, map, filter, length, codes, unwrap_or, Option, Some, None, slice_get, IsUtf8}
 use Rattle.std.specs.List.{list_any}
 use Rattle.cdl_source.specs.declared.limits.TheConstants.{LONGEST_UNIT, MOST_ELEMENTS, MOST_INSTANCES, MOST_STEPS, MOST_WIRES}
-use Rattle.cdl_kinds.specs.declared.value.ValueType.{ValueType}
-use Rattle.cdl_kinds.specs.declared.value.ValueType.TheVariants.{Boolean, Integer, Real}
+use Rattle.cdl_values.specs.declared.value.ValueType.{ValueType}
+use Rattle.cdl_values.specs.declared.value.ValueType.TheVariants.{Boolean, Integer, Real}
 use Rattle.cdl_kinds.specs.declared.kind.Kind.{Kind}
-use Rattle.cdl_kinds.specs.declared.value.Array.{Array}
+use Rattle.cdl_values.specs.declared.value.Array.{Array}
 use Rattle.cdl_kinds.specs.Conditions.{Keeps}
 use Rattle.cdl_kinds.specs.Ports.{PortRow, inputs, outputs, port_at}
 use Rattle.cdl_network.specs.Lists.{has_some, numbers}
@@ -92,7 +92,7 @@ pub record IsWithinLimits (n : Net) : Type 0 where
 
 -- the element is the port: its name with its index, its type and its direction
 pub record IsPort (p : PortRow) (e : NetElement) : Type 0 where
-  pub value_type : e.value_type ≡ p.sort
+  pub value_type : e.value_type ≡ p.value_type
   pub input : e.input ≡ p.input
   pub index : List ℕ
   pub spelled : IsIndexText (cond (p.index == 0) [] (p.index ∷ [])) index

@@ -10,7 +10,7 @@ ghost use Rattle.cdl_connect.specs.inner.Numbers.{wire_rule, sink_rule, fault_at
 
 use crate::faults::{NetFault, NetRefusal, SinkFault, WireFault};
 use crate::net::{Body, Net, RawWire};
-use cdl_kinds::ValueType;
+use cdl_values::ValueType;
 use std::alloc::{AllocError, Global};
 use std::marker::Model;
 

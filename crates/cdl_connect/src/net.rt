@@ -1,6 +1,7 @@
 // A net: lists in which a name is a place.
-use cdl_kinds::{Kind, Params, ValueType};
+use cdl_kinds::{Kind, Params};
 use cdl_source::{List, Text};
+use cdl_values::ValueType;
 
 /// What an instance is.
 #[derive(Debug, Drop)]

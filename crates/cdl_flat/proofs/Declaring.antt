@@ -226,7 +226,7 @@ named-push : (d : Declarations) (n : List ℕ) (p : Part) → place_of d n ≡ N
 named-push d n (part.Input t) free s =
     let more = λ (m : List ℕ). place-push d.names n (place.Input (length d.inputs)) m free in
     record {
-      inputs = stands-same (λ (c : Column). c.name) place.Input d.inputs (record { name = n; kind = t }) d (with_part d n (part.Input t)) (λ i k e. cc (e)) s.inputs free more;
+      inputs = stands-same (λ (c : Column). c.name) place.Input d.inputs (record { name = n; value_type = t }) d (with_part d n (part.Input t)) (λ i k e. cc (e)) s.inputs free more;
       outputs = stands-other (λ (c : Column). c.name) place.Output d.outputs n (place.Input (length d.inputs)) d (with_part d n (part.Input t)) (λ i e. cc (e)) s.outputs free more;
       components = stands-other (λ (c : Component). c.name) place.Component d.components n (place.Input (length d.inputs)) d (with_part d n (part.Input t)) (λ i e. cc (e)) s.components free more;
     }
@@ -234,7 +234,7 @@ named-push d n (part.Output t) free s =
     let more = λ (m : List ℕ). place-push d.names n (place.Output (length d.outputs)) m free in
     record {
       inputs = stands-other (λ (c : Column). c.name) place.Input d.inputs n (place.Output (length d.outputs)) d (with_part d n (part.Output t)) (λ i e. cc (e)) s.inputs free more;
-      outputs = stands-same (λ (c : Column). c.name) place.Output d.outputs (record { name = n; kind = t }) d (with_part d n (part.Output t)) (λ i k e. cc (e)) s.outputs free more;
+      outputs = stands-same (λ (c : Column). c.name) place.Output d.outputs (record { name = n; value_type = t }) d (with_part d n (part.Output t)) (λ i k e. cc (e)) s.outputs free more;
       components = stands-other (λ (c : Component). c.name) place.Component d.components n (place.Output (length d.outputs)) d (with_part d n (part.Output t)) (λ i e. cc (e)) s.components free more;
     }
 named-push d n (part.Component k) free s =

@@ -4,7 +4,7 @@ use Rattle.std.specs.Prelude.{option_and_then, slice_get}
 use Rattle.std.specs.Option.{option_map, IsSome}
 use Rattle.std.proofs.lemmas.Bool.{cases_lt}
 use Rattle.std.proofs.lemmas.Option.{slice_get_past}
-use Rattle.cdl_kinds.specs.History.{word}
+use Rattle.cdl_values.specs.History.{word}
 use Rattle.cdl_flat.specs.declared.part.Component.{Component}
 use Rattle.cdl_flat.specs.declared.part.End.{End}
 use Rattle.cdl_flat.specs.declared.part.End.TheVariants.{Input, Output, Taker, Giver}

@@ -3,7 +3,7 @@ use Rattle.std.proofs.Common.{◌≡◌, ◌<◌, ◌≤◌, ◌+◌, ◌*◌, �
 use Rattle.std.specs.Prelude.{slice_get}
 use Rattle.std.specs.Option.{IsSome}
 use Rattle.std.proofs.lemmas.Bool.{lt-ltb, false≢true}
-use Rattle.cdl_kinds.specs.declared.value.ValueType.{ValueType}
+use Rattle.cdl_values.specs.declared.value.ValueType.{ValueType}
 use Rattle.cdl_table.specs.declared.column.Column.{Column}
 use Rattle.cdl_tree.specs.declared.class.Item.{Item}
 use Rattle.cdl_tree.specs.declared.class.Connect.{Connect}
@@ -21,7 +21,7 @@ use Rattle.cdl_flat.specs.Ends.{end_of, given_type, taken_type}
 use Rattle.cdl_flat.specs.Flat.{IsTyped, IsForward, IsFlat}
 use Rattle.cdl_flat.specs.Solution.{port_ref}
 use Rattle.cdl_flat.specs.Declaring.{is_simple, declare_all}
-use Rattle.cdl_flat.specs.Joining.{has_place, input_place, edge_of, edge_between, straight_end, no_joins, join_all, are_joined, are_fed, is_full}
+use Rattle.cdl_flat.specs.Joining.{has_place, input_place, edge_of, edge_between, straight_end, no_joins, join_each, are_joined, are_fed, is_full}
 use Rattle.cdl_flat.specs.Nets.{HasEdge, IsNet, IsFound}
 use Rattle.cdl_flat.proofs.ListFacts.{both, at-lt, lt-at, at-map, map-at, push-old, push-new}
 use Rattle.cdl_flat.proofs.PlainFacts.{few_inputs}
@@ -98,7 +98,7 @@ ends-of d w e h = (h, edge-sound (length d.outputs) (length d.components) h.from
 
 typed-of : (d : Declarations) (w : Wire) (e : Edge) → Ends d w e → IsTyped d w
 typed-of d w e h = record {
-  kind = type_of h.0.from;
+  value_type = type_of h.0.from;
   source = ap given_type h.0.source ∙ gives-type h.0.from e.source h.1.gives;
   sink = ap taken_type h.0.sink ∙ takes-type (length d.outputs) (length d.components) h.0.to e.place h.1.takes ∙ ap Some (sym h.1.same);
 }
@@ -250,13 +250,13 @@ edge-is d c a b l r = rw (l, r) refl
 edge-of : (d : Declarations) (c : Connect) → IsSound d → straight_end d c.left ≡ end_of d (wire_of c).source → straight_end d c.right ≡ end_of d (wire_of c).sink → IsTyped d (wire_of c)
     → IsForward (end_of d (wire_of c).source) (end_of d (wire_of c).sink) → (e : Edge) × (edge_of d c ≡ Some e) × At (no_joins d) e.place None
 edge-of d c s left right typed forward =
-    let a = has-end (end_of d (wire_of c).source) typed.kind typed.source in
-    let b = has-sink (end_of d (wire_of c).sink) typed.kind typed.sink in
-    let g : given_type (Some a.0) ≡ Some typed.kind = ap given_type (sym a.1) ∙ typed.source in
-    let t : taken_type (Some b.0) ≡ Some typed.kind = ap taken_type (sym b.1) ∙ typed.sink in
+    let a = has-end (end_of d (wire_of c).source) typed.value_type typed.source in
+    let b = has-sink (end_of d (wire_of c).sink) typed.value_type typed.sink in
+    let g : given_type (Some a.0) ≡ Some typed.value_type = ap given_type (sym a.1) ∙ typed.source in
+    let t : taken_type (Some b.0) ≡ Some typed.value_type = ap taken_type (sym b.1) ∙ typed.sink in
     let f1 : IsForward (Some a.0) (end_of d (wire_of c).sink) = subst (λ (o : Option End). IsForward o (end_of d (wire_of c).sink)) a.1 forward in
     let f2 : IsForward (Some a.0) (Some b.0) = subst (λ (o : Option End). IsForward (Some a.0) o) b.1 f1 in
-    let e = edge-complete (length d.outputs) (length d.components) a.0 b.0 typed.kind g t f2 (fits-place d (wire_of c).sink b.0 s b.1) in
+    let e = edge-complete (length d.outputs) (length d.components) a.0 b.0 typed.value_type g t f2 (fits-place d (wire_of c).sink b.0 s b.1) in
     let is = edge-sound (length d.outputs) (length d.components) a.0 b.0 e.0 e.1 in
     (e.0, edge-is d c a.0 b.0 (left ∙ a.1) (right ∙ b.1) ∙ e.1, place-free d (wire_of c).sink b.0 e.0.place s b.1 is.takes)
 
@@ -303,7 +303,7 @@ flat-found items parts connects size f =
     let outs = each-joined j.0 0 (length d.outputs)
     (λ m lt.
     let c = lt-at d.outputs m lt in
-    let r = fed (c.0.name ∷ []) (Output m c.0.kind) m (ref-output d m c.0 s.named c.1) refl refl in
+    let r = fed (c.0.name ∷ []) (Output m c.0.value_type) m (ref-output d m c.0 s.named c.1) refl refl in
     let place : 0 + m ≡ m = omega arith in
     (r.0, ap (slice_get j.0) place ∙ r.1)) in
     let ins = each-fed j.0 (length d.outputs) 0 d.components
@@ -339,26 +339,26 @@ too-many items parts connects o d size one some many flat =
     omega arith
 
 pub not-joined : (items : List Item) (parts : List (Option Part)) (connects : List Connect) (o : Option Declarations) (d : Declarations) (j : Option (List (Option Source))) → length items ≡ length parts
-    → o ≡ declare_all nothing_declared items parts → o ≡ Some d → j ≡ join_all d (no_joins d) connects → j ≡ None → IsFlat items parts connects → ⊥
+    → o ≡ declare_all nothing_declared items parts → o ≡ Some d → j ≡ join_each d (no_joins d) connects → j ≡ None → IsFlat items parts connects → ⊥
 not-joined items parts connects o d j size one some two none flat =
     let f = flat-found items parts connects size flat in
     let same = same-declared items parts connects o d f.0 one some f.1 in
-    let is : join_all d (no_joins d) connects ≡ Some f.0 = subst (λ (x : Declarations). join_all x (no_joins x) connects ≡ Some f.0) same f.1.joined in
+    let is : join_each d (no_joins d) connects ≡ Some f.0 = subst (λ (x : Declarations). join_each x (no_joins x) connects ≡ Some f.0) same f.1.joined in
     cc (two, none, is)
 
 pub not-full : (items : List Item) (parts : List (Option Part)) (connects : List Connect) (o : Option Declarations) (d : Declarations) (joins given : List (Option Source)) (b : Bool) → length items ≡ length parts
-    → o ≡ declare_all nothing_declared items parts → o ≡ Some d → Some joins ≡ join_all d (no_joins d) connects → given ≡ joins → b ≡ is_full d given → b ≡ false → IsFlat items parts connects → ⊥
+    → o ≡ declare_all nothing_declared items parts → o ≡ Some d → Some joins ≡ join_each d (no_joins d) connects → given ≡ joins → b ≡ is_full d given → b ≡ false → IsFlat items parts connects → ⊥
 not-full items parts connects o d joins given b size one some two lent three no_more flat =
     let f = flat-found items parts connects size flat in
     let same = same-declared items parts connects o d f.0 one some f.1 in
-    let is : join_all d (no_joins d) connects ≡ Some f.0 = subst (λ (x : Declarations). join_all x (no_joins x) connects ≡ Some f.0) same f.1.joined in
+    let is : join_each d (no_joins d) connects ≡ Some f.0 = subst (λ (x : Declarations). join_each x (no_joins x) connects ≡ Some f.0) same f.1.joined in
     let full : is_full d f.0 ≡ true = subst (λ (x : Declarations). is_full x f.0 ≡ true) same f.1.full in
     let js : joins ≡ f.0 = cc (two, is) in
     let also : is_full d given ≡ true = ap (is_full d) (lent ∙ js) ∙ full in
     false≢true (sym no_more ∙ three ∙ also)
 
 pub all-found : (items : List Item) (parts : List (Option Part)) (connects : List Connect) (o : Option Declarations) (d : Declarations) (joins given : List (Option Source)) (b : Bool)
-    → o ≡ declare_all nothing_declared items parts → o ≡ Some d → length d.components ≤ 19999 → Some joins ≡ join_all d (no_joins d) connects → given ≡ joins → b ≡ is_full d given → b ≡ true
+    → o ≡ declare_all nothing_declared items parts → o ≡ Some d → length d.components ≤ 19999 → Some joins ≡ join_each d (no_joins d) connects → given ≡ joins → b ≡ is_full d given → b ≡ true
     → IsFound items parts connects d joins
 all-found items parts connects o d joins given b one some few two lent three more = record {
   declared = sym one ∙ some;

@@ -3,7 +3,7 @@ use Rattle.std.proofs.Common.{◌≡◌, ◌<◌, ◌≤◌, ◌+◌, ◌*◌, �
 use Rattle.std.specs.Prelude.{◌⊎◌, option_and_then, slice_get, ◌==◌, nat_lt}
 use Rattle.std.proofs.lemmas.Bool.{false≢true, cases_eq, lt-ltb}
 use Rattle.std.proofs.lemmas.Bool.Decides.{nat_tests}
-use Rattle.cdl_kinds.specs.declared.value.ValueType.{ValueType}
+use Rattle.cdl_values.specs.declared.value.ValueType.{ValueType}
 use Rattle.cdl_tree.specs.declared.class.Connect.{Connect}
 use Rattle.cdl_tree.specs.declared.class.Part.{Part}
 use Rattle.cdl_tree.specs.declared.class.Ref.{Ref}
@@ -18,7 +18,7 @@ use Rattle.cdl_flat.specs.PlainKinds.{input_count}
 use Rattle.cdl_flat.specs.Blocks.{Declarations, wire_of, texts_of}
 use Rattle.cdl_flat.specs.Ends.{end_of, given_type, taken_type}
 use Rattle.cdl_flat.specs.Flat.{IsStraight, IsForward}
-use Rattle.cdl_flat.specs.Joining.{same_type, has_place, input_place, edge_between, is_bare, are_straight, is_straight, straight_end, edge_of, put_free, put, join, join_all, is_joined_place, are_joined, are_fed}
+use Rattle.cdl_flat.specs.Joining.{same_type, has_place, input_place, edge_between, is_bare, are_straight, is_straight, straight_end, edge_of, put_free, put, join, join_each, is_joined_place, are_joined, are_fed}
 use Rattle.cdl_flat.specs.Nets.{HasEdge}
 use Rattle.cdl_flat.proofs.ListFacts.{and_then-some, then-some, both, set-here, set-other}
 use Rattle.cdl_flat.proofs.NetFacts.{type-self, Gives, Takes, type_of}
@@ -163,10 +163,10 @@ joined-more d t m u c cs e is free new j =
         absurd (clash i x f xi fx (ap (λ (h : Edge). h.place) edge ∙ sym p))
     once clash (suc i) (suc k) x y f g xi yk fx gy p = ap suc (j.once i k x y f g xi yk fx gy p)
 
-pub all-joined : (d : Declarations) (cs : List Connect) (t u : List (Option Source)) → join_all d t cs ≡ Some u → Joined d t u cs
+pub all-joined : (d : Declarations) (cs : List Connect) (t u : List (Option Source)) → join_each d t cs ≡ Some u → Joined d t u cs
 all-joined d [] t u h = joined-nothing d t u (cc (h))
 all-joined d (c ∷ cs) t u h =
-    let a = and_then-some (λ j. join_all d j cs) (join d t c) u h in
+    let a = and_then-some (λ j. join_each d j cs) (join d t c) u h in
     let b = and_then-some (put t) (edge_of d c) a.0 a.1 in
     let p = put-sound t a.0 b.0 (slice_get t b.0.place) b.2 in
     joined-more d t a.0 u c cs b.0 b.1 p.0 p.1 (all-joined d cs a.0 u a.2)
@@ -187,7 +187,7 @@ all-free (suc n) (suc q) lt = all-free n q (omega arith)
 -- Statements with edges at places of their own that are free can be joined.
 pub can-join : (d : Declarations) (cs : List Connect) (t : List (Option Source)) → Each (λ c. (e : Edge) × (edge_of d c ≡ Some e) × At t e.place None) cs
     → ((i k : ℕ) (x y : Connect) (e f : Edge) → At cs i x → At cs k y → edge_of d x ≡ Some e → edge_of d y ≡ Some f → e.place ≡ f.place → i ≡ k)
-    → (u : List (Option Source)) × (join_all d t cs ≡ Some u)
+    → (u : List (Option Source)) × (join_each d t cs ≡ Some u)
 can-join d [] t each once = (t, refl)
 can-join d (c ∷ cs) t each once =
     let h = each 0 c refl in
@@ -199,7 +199,7 @@ can-join d (c ∷ cs) t each once =
     let apart : h.0.place ≡ w.0.place → ⊥ = λ same. let bad : 0 ≡ suc k = once 0 (suc k) c x h.0 w.0 refl at h.1 w.1 same in omega arith in
     (w.0, w.1, set-other t h.0.place w.0.place (Some h.0.source) apart ∙ w.2))
     (λ i k x y e f xi yk ex fy p. let s : suc i ≡ suc k = once (suc i) (suc k) x y e f xi yk ex fy p in omega arith) in
-    (rest.0, ap (option_and_then (λ j. join_all d j cs)) one ∙ rest.1)
+    (rest.0, ap (option_and_then (λ j. join_each d j cs)) one ∙ rest.1)
 
 -- The places that are joined
 place-joined : (o : Option (Option Source)) → is_joined_place o ≡ true → (s : Source) × (o ≡ Some (Some s))

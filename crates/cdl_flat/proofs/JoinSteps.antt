@@ -1,12 +1,12 @@
 -- Joining the statements of a block one after another.
 use Rattle.std.proofs.Common.{◌≡◌, ◌<◌, ◌+◌, ◌-◌, ◌∙◌, ℕ, suc, Bool, true, false, List, Option, Some, None, length, drop, get_or, refl, sym, arith, add-one}
 use Rattle.std.specs.Prelude.{if◌then◌else◌, slice_get, ◌&&◌, ◌*◌}
-use Rattle.cdl_tree.specs.declared.class.Connect.{Connect}
+use Rattle.cdl_tree.specs.declared.class.Statement.{Statement}
 use Rattle.cdl_flat.specs.declared.part.Component.{Component}
 use Rattle.cdl_flat.specs.declared.part.Source.{Source}
 use Rattle.cdl_flat.specs.PlainKinds.{input_count}
 use Rattle.cdl_flat.specs.Blocks.{Declarations}
-use Rattle.cdl_flat.specs.Joining.{join, join_all, are_joined, are_fed, is_joined_place}
+use Rattle.cdl_flat.specs.Joining.{join_statement, join_all, are_joined, are_fed, is_joined_place}
 use Rattle.cdl_flat.proofs.ListFacts.{drop_here}
 
 joined_here : (joins : List (Option Source)) (q n i : ℕ) (whole b : Bool) → i < n → whole ≡ are_joined joins (q + i) (n - i) → b ≡ is_joined_place (slice_get joins (q + i))
@@ -41,12 +41,12 @@ none_at_false o e done h one = rw h at one
 some_at_true : {X : Type 0} (o : Option X) (e : X) (done : Bool) → done ≡ true → o ≡ (if done then Some e else None) → o ≡ Some e
 some_at_true o e done h one = rw h at one
 
-pub join_stops : (whole : Option (List (Option Source))) (d : Declarations) (joins after : List (Option Source)) (cs : List Connect) (i : ℕ) (c : Connect) (done : Bool) → i < length cs → c ≡ get_or cs i c
-    → whole ≡ join_all d joins (drop i cs) → join d joins c ≡ (if done then Some after else None) → done ≡ false → None ≡ whole
+pub join_stops : (whole : Option (List (Option Source))) (d : Declarations) (joins after : List (Option Source)) (cs : List Statement) (i : ℕ) (c : Statement) (done : Bool) → i < length cs → c ≡ get_or cs i c
+    → whole ≡ join_all d joins (drop i cs) → join_statement d joins c ≡ (if done then Some after else None) → done ≡ false → None ≡ whole
 join_stops whole d joins after cs i c done lt at before one stopped =
-    sym (before ∙ rw (drop_here cs i c lt at, none_at_false (join d joins c) after done stopped one) refl)
+    sym (before ∙ rw (drop_here cs i c lt at, none_at_false (join_statement d joins c) after done stopped one) refl)
 
-pub join_goes_on : (whole : Option (List (Option Source))) (d : Declarations) (joins after : List (Option Source)) (cs : List Connect) (i : ℕ) (c : Connect) (done : Bool) → i < length cs → c ≡ get_or cs i c
-    → whole ≡ join_all d joins (drop i cs) → join d joins c ≡ (if done then Some after else None) → done ≡ true → whole ≡ join_all d after (drop (i + 1) cs)
+pub join_goes_on : (whole : Option (List (Option Source))) (d : Declarations) (joins after : List (Option Source)) (cs : List Statement) (i : ℕ) (c : Statement) (done : Bool) → i < length cs → c ≡ get_or cs i c
+    → whole ≡ join_all d joins (drop i cs) → join_statement d joins c ≡ (if done then Some after else None) → done ≡ true → whole ≡ join_all d after (drop (i + 1) cs)
 join_goes_on whole d joins after cs i c done lt at before one on =
-    before ∙ rw (drop_here cs i c lt at, some_at_true (join d joins c) after done on one, add-one) refl
+    before ∙ rw (drop_here cs i c lt at, some_at_true (join_statement d joins c) after done on one, add-one) refl

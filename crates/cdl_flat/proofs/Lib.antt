@@ -7,5 +7,6 @@ pub mod JoinSteps
 pub mod NetFacts
 pub mod Equations
 pub mod JoinFacts
+pub mod Statements
 pub mod FlatLaw
 pub mod Ticks

@@ -5,8 +5,8 @@ use Rattle.std.specs.Option.{option_map}
 use Rattle.std.proofs.lemmas.Bool.{false≢true, cases_lt, ltb-true, lt-ltb}
 use Rattle.std.proofs.lemmas.Bool.Decides.{nat_tests}
 use Rattle.cdl_kinds.specs.declared.kind.Kind.{Kind}
-use Rattle.cdl_kinds.specs.declared.value.ValueType.{ValueType}
-use Rattle.cdl_kinds.specs.declared.value.ValueType.TheVariants.{Boolean, Integer, Real, Str, Enumeration}
+use Rattle.cdl_values.specs.declared.value.ValueType.{ValueType}
+use Rattle.cdl_values.specs.declared.value.ValueType.TheVariants.{Boolean, Integer, Real, Str, Enumeration}
 use Rattle.cdl_table.specs.declared.column.Column.{Column}
 use Rattle.cdl_flat.specs.declared.part.Component.{Component}
 use Rattle.cdl_flat.specs.declared.part.Edge.{Edge}
@@ -33,29 +33,29 @@ pub record IsSound (d : Declarations) : Type 0 where
 
 -- The reference is that of the end.
 abbrev pub IsRef : Declarations → List (List ℕ) → End → Type 0
-IsRef d r (Input i t) = (c : Column) × At d.inputs i c × (r ≡ c.name ∷ []) × (t ≡ c.kind)
-IsRef d r (Output k t) = (c : Column) × At d.outputs k c × (r ≡ c.name ∷ []) × (t ≡ c.kind)
+IsRef d r (Input i t) = (c : Column) × At d.inputs i c × (r ≡ c.name ∷ []) × (t ≡ c.value_type)
+IsRef d r (Output k t) = (c : Column) × At d.outputs k c × (r ≡ c.name ∷ []) × (t ≡ c.value_type)
 IsRef d r (Taker j p t) = (c : Component) × At d.components j c × (r ≡ port_ref c p) × (p < input_count c.kind) × (t ≡ port_type c.kind p)
 IsRef d r (Giver j t) = (c : Component) × At d.components j c × (r ≡ port_ref c (input_count c.kind)) × (t ≡ port_type c.kind (input_count c.kind))
 
-kind-at : (xs : List Column) (i : ℕ) (x : Column) (t : ValueType) → At xs i x → option_map (λ (c : Column). c.kind) (slice_get xs i) ≡ Some t → t ≡ x.kind
+kind-at : (xs : List Column) (i : ℕ) (x : Column) (t : ValueType) → At xs i x → option_map (λ (c : Column). c.value_type) (slice_get xs i) ≡ Some t → t ≡ x.value_type
 kind-at xs i x t at h =
-    let m = map-some (λ (c : Column). c.kind) (slice_get xs i) t h in
+    let m = map-some (λ (c : Column). c.value_type) (slice_get xs i) t h in
     let e : m.0 ≡ x = same-at xs i m.0 x m.1 at in
-    sym m.2 ∙ ap (λ (c : Column). c.kind) e
+    sym m.2 ∙ ap (λ (c : Column). c.value_type) e
 
 own-sound : (d : Declarations) (name : List ℕ) (o : Option Place) (e : End) → IsNamed d → place_of d name ≡ o → own_end d o ≡ Some e → IsRef d (name ∷ []) e
 own-sound d name None e s at h = absurd (cc (h))
 own-sound d name (Some (place.Component j)) e s at h = absurd (cc (h))
 own-sound d name (Some (place.Input i)) e s at h =
-    let m = map-some (Input i) (option_map (λ (c : Column). c.kind) (slice_get d.inputs i)) e h in
+    let m = map-some (Input i) (option_map (λ (c : Column). c.value_type) (slice_get d.inputs i)) e h in
     let b = s.inputs.back name i at in
-    let t : m.0 ≡ b.0.kind = kind-at d.inputs i b.0 m.0 b.1 m.1 in
+    let t : m.0 ≡ b.0.value_type = kind-at d.inputs i b.0 m.0 b.1 m.1 in
     subst (IsRef d (name ∷ [])) m.2 (b.0, b.1, ap (λ (n : List ℕ). n ∷ []) (sym b.2), t)
 own-sound d name (Some (place.Output k)) e s at h =
-    let m = map-some (Output k) (option_map (λ (c : Column). c.kind) (slice_get d.outputs k)) e h in
+    let m = map-some (Output k) (option_map (λ (c : Column). c.value_type) (slice_get d.outputs k)) e h in
     let b = s.outputs.back name k at in
-    let t : m.0 ≡ b.0.kind = kind-at d.outputs k b.0 m.0 b.1 m.1 in
+    let t : m.0 ≡ b.0.value_type = kind-at d.outputs k b.0 m.0 b.1 m.1 in
     subst (IsRef d (name ∷ [])) m.2 (b.0, b.1, ap (λ (n : List ℕ). n ∷ []) (sym b.2), t)
 
 port-sound : (d : Declarations) (j p : ℕ) (c : Component) → At d.components j c → is_plain_kind c.kind ≡ true → p < port_count c.kind → IsRef d (port_ref c p) (port_end j c.kind p)
@@ -94,10 +94,10 @@ end-ref d (name ∷ port ∷ []) e s h = component-sound d name port (place_of d
 end-ref d (a ∷ b ∷ c ∷ r) e s h = absurd (cc (h))
 
 -- The reference of an end stands for it.
-pub ref-input : (d : Declarations) (i : ℕ) (c : Column) → IsNamed d → At d.inputs i c → end_of d (c.name ∷ []) ≡ Some (Input i c.kind)
+pub ref-input : (d : Declarations) (i : ℕ) (c : Column) → IsNamed d → At d.inputs i c → end_of d (c.name ∷ []) ≡ Some (Input i c.value_type)
 ref-input d i c s at = rw (s.inputs.there i c at, at) refl
 
-pub ref-output : (d : Declarations) (k : ℕ) (c : Column) → IsNamed d → At d.outputs k c → end_of d (c.name ∷ []) ≡ Some (Output k c.kind)
+pub ref-output : (d : Declarations) (k : ℕ) (c : Column) → IsNamed d → At d.outputs k c → end_of d (c.name ∷ []) ≡ Some (Output k c.value_type)
 ref-output d k c s at = rw (s.outputs.there k c at, at) refl
 
 ref-port : (d : Declarations) (j p : ℕ) (c : Component) → IsSound d → At d.components j c → p < port_count c.kind → end_of d (port_ref c p) ≡ Some (port_end j c.kind p)

@@ -10,18 +10,19 @@ use Rattle.cdl_kinds.specs.declared.kind.Kind.{Kind}
 use Rattle.cdl_kinds.specs.declared.kind.Kind.TheVariants.{LogicalAnd}
 use Rattle.cdl_kinds.specs.declared.parameter.Parameter.{Parameter}
 use Rattle.cdl_kinds.specs.Conditions.{conditions, first_broken, Fits, FitRows, Keeps}
-use Rattle.cdl_kinds.specs.Parameters.{ParameterRow, parameters, row_of}
+use Rattle.cdl_kinds.specs.Table.{ParameterRow}
+use Rattle.cdl_kinds.specs.Parameters.{parameters, parameter_row}
 use Rattle.cdl_kinds.specs.Ports.{inputs, outputs}
 use Rattle.cdl_kinds.specs.StateWords.{state_words}
 use Rattle.cdl_blocks.specs.MemorylessKinds.{is_memoryless}
-use Rattle.cdl_kinds.specs.declared.value.Array.{Array}
-use Rattle.cdl_kinds.specs.declared.value.ValueType.{ValueType}
-use Rattle.cdl_kinds.specs.History.{Inputs, Meaning, AreReady, AreValues, IsValue, word}
+use Rattle.cdl_values.specs.declared.value.Array.{Array}
+use Rattle.cdl_values.specs.declared.value.ValueType.{ValueType}
+use Rattle.cdl_values.specs.History.{Signature, Meaning, AreReady, AreValues, IsValue, word}
 use Rattle.cdl_kinds.specs.Meanings.{meaning}
 use Rattle.cdl_flat.specs.PlainKinds.{is_plain_kind, input_count, output_count, port_name, port_type, port_from, port_count, given, FitInputs}
 
-pub row_count : (k : Kind) (rows : List Parameter) → map row_of rows ≡ parameters k → length (parameters k) ≡ length rows
-row_count k rows e = ap length (sym e) ∙ length-map rows row_of
+pub row_count : (k : Kind) (rows : List Parameter) → map parameter_row rows ≡ parameters k → length (parameters k) ≡ length rows
+row_count k rows e = ap length (sym e) ∙ length-map rows parameter_row
 
 is_at : Option ℕ → ℕ → Bool
 is_at None p = false
@@ -142,22 +143,22 @@ one_less k n h e =
     (omega arith, omega arith, omega arith, omega arith)
 
 -- the type of an input, and that of an output
-input_type : (k : Kind) (p : ℕ) → p < (inputs k []).count → port_type k p ≡ (inputs k []).sort p
+input_type : (k : Kind) (p : ℕ) → p < (inputs k []).count → port_type k p ≡ (inputs k []).value_type p
 unfolding port_type
 input_type k p lt = rw (lt-ltb p (inputs k []).count lt) refl
 
 not_below : (p n : ℕ) → n ≤ p → nat_lt p n ≡ false
 not_below p n h = grind (arith, nat_tests)
 
-output_type : (k : Kind) (p : ℕ) → (inputs k []).count ≤ p → port_type k p ≡ (outputs k []).sort (p - (inputs k []).count)
+output_type : (k : Kind) (p : ℕ) → (inputs k []).count ≤ p → port_type k p ≡ (outputs k []).value_type (p - (inputs k []).count)
 unfolding port_type
 output_type k p le = rw (not_below p (inputs k []).count le) refl
 
-pub type_is : (k : Kind) (v : List Array) (p : ℕ) (t : ValueType) → v ≡ [] → (p < (inputs k v).count → t ≡ (inputs k v).sort p)
-    → ((inputs k v).count ≤ p → t ≡ (outputs k v).sort (p - (inputs k v).count)) → t ≡ port_type k p
+pub type_is : (k : Kind) (v : List Array) (p : ℕ) (t : ValueType) → v ≡ [] → (p < (inputs k v).count → t ≡ (inputs k v).value_type p)
+    → ((inputs k v).count ≤ p → t ≡ (outputs k v).value_type (p - (inputs k v).count)) → t ≡ port_type k p
 type_is k v p t none ins outs =
-    let ins' = subst (λ (a : List Array). p < (inputs k a).count → t ≡ (inputs k a).sort p) none ins in
-    let outs' = subst (λ (a : List Array). (inputs k a).count ≤ p → t ≡ (outputs k a).sort (p - (inputs k a).count)) none outs in
+    let ins' = subst (λ (a : List Array). p < (inputs k a).count → t ≡ (inputs k a).value_type p) none ins in
+    let outs' = subst (λ (a : List Array). (inputs k a).count ≤ p → t ≡ (outputs k a).value_type (p - (inputs k a).count)) none outs in
     elim (cases_lt p (inputs k []).count) [
       | inl lt ↦ ins' lt ∙ sym (input_type k p lt)
       | inr le ↦ outs' le ∙ sym (output_type k p le)
@@ -169,11 +170,11 @@ no_fault k v n none h e =
     let broken : first_broken (conditions k []) ≡ Some n = subst (λ (a : List Array). first_broken (conditions k a) ≡ Some n) none e in
     cc
 
-pub ready : (k : Kind) (v : List Array) (p : Inputs) (x : List ℤ) → p ≡ inputs k v → v ≡ [] → FitInputs k x → AreReady p x
+pub ready : (k : Kind) (v : List Array) (p : Signature) (x : List ℤ) → p ≡ inputs k v → v ≡ [] → FitInputs k x → AreReady p x
 unfolding input_count
 ready k v p x e none f =
     let same : p ≡ inputs k [] = e ∙ ap (inputs k) none in
-    subst (λ (q : Inputs). AreReady q x) (sym same)
+    subst (λ (q : Signature). AreReady q x) (sym same)
     (record { size = f.size; each = λ i lt direct. subst (λ (t : ValueType). IsValue t (word x i)) (input_type k i lt) (f.each i lt) })
 
 single : (ys : List ℤ) → length ys ≡ 1 → ys ≡ word ys 0 ∷ []
@@ -194,15 +195,15 @@ lacked k v m t now x e none at h =
     let same : meaning k [] ≡ m = sym (e ∙ ap (meaning k) none) in
     ap (λ (a : Meaning). a [] now x) same ∙ ap (λ (a : ℤ). m [] a x) (sym at) ∙ h
 
-pub typed_one : (k : Kind) (v : List Array) (p : Inputs) (ys : List ℤ) (y : ℤ) → p ≡ outputs k v → v ≡ [] → is_plain_kind k ≡ true → AreValues p ys → y ≡ word ys 0
+pub typed_one : (k : Kind) (v : List Array) (p : Signature) (ys : List ℤ) (y : ℤ) → p ≡ outputs k v → v ≡ [] → is_plain_kind k ≡ true → AreValues p ys → y ≡ word ys 0
     → IsValue (port_type k (input_count k)) y
 unfolding input_count output_count
 typed_one k v p ys y e none h a w =
     let same : p ≡ outputs k [] = e ∙ ap (outputs k) none in
-    let b = subst (λ (q : Inputs). AreValues q ys) same a in
+    let b = subst (λ (q : Signature). AreValues q ys) same a in
     let one : (outputs k []).count ≡ 1 = one_output k h in
     let first : (inputs k []).count - (inputs k []).count ≡ 0 = omega arith in
-    let t : port_type k (inputs k []).count ≡ (outputs k []).sort 0 = output_type k (inputs k []).count (omega arith) ∙ ap (outputs k []).sort first in
+    let t : port_type k (inputs k []).count ≡ (outputs k []).value_type 0 = output_type k (inputs k []).count (omega arith) ∙ ap (outputs k []).value_type first in
     subst (λ (z : ℤ). IsValue (port_type k (inputs k []).count) z) (sym w) (subst (λ (u : ValueType). IsValue u (word ys 0)) (sym t) (b.each 0 (omega arith)))
 
 pub port_next : (k : Kind) (name : List ℕ) (p n : ℕ) → p < n → bytes_eq (port_name k p) name ≡ false → port_from k name p (n - p) ≡ port_from k name (p + 1) (n - (p + 1))

@@ -3,12 +3,12 @@ use Rattle.std.proofs.Common.{◌≡◌, ◌<◌, ◌≤◌, ◌+◌, ◌*◌, �
 use Rattle.std.specs.Prelude.{pos, negsuc, unsigned_abs, option_and_then, slice_get, OnOk, IfErr, IfOk, MatchResult, Result, Ok, Err}
 use Rattle.std.specs.Int.Signed.{mag}
 use Rattle.std.proofs.lemmas.Option.{slice_get-get_or}
-use Rattle.cdl_kinds.specs.declared.elementary.NoValue.{NoValue}
-use Rattle.cdl_kinds.specs.declared.value.ValueType.TheVariants.{Boolean, Integer, Real, Str, Enumeration}
+use Rattle.cdl_values.specs.declared.words.NoValue.{NoValue}
+use Rattle.cdl_values.specs.declared.value.ValueType.TheVariants.{Boolean, Integer, Real, Str, Enumeration}
 use Rattle.std.proofs.lemmas.Bool.{cases_eq}
 use Rattle.std.proofs.lemmas.List.{get_or-set_same, get_or-set_other, length-set}
-use Rattle.cdl_kinds.specs.declared.value.ValueType.{ValueType}
-use Rattle.cdl_kinds.specs.History.{IsValue, word}
+use Rattle.cdl_values.specs.declared.value.ValueType.{ValueType}
+use Rattle.cdl_values.specs.History.{IsValue, word}
 use Rattle.cdl_table.specs.declared.column.Column.{Column}
 use Rattle.cdl_table.specs.Values.{AreValues}
 use Rattle.cdl_flat.specs.declared.part.Component.{Component}
@@ -31,10 +31,10 @@ use Rattle.cdl_flat.proofs.System.{only}
 use Rattle.cdl_flat.proofs.Equations.{equations, causal, sound, join-at, early, values_in, all-values, inputs-in, end-is, look-same, taken-same}
 
 -- The words of a row are values of the columns.
-row-typed : (cs : List Column) (ws : List ℤ) (i : ℕ) (c : Column) → AreValues cs ws → At cs i c → IsValue c.kind (word ws i)
+row-typed : (cs : List Column) (ws : List ℤ) (i : ℕ) (c : Column) → AreValues cs ws → At cs i c → IsValue c.value_type (word ws i)
 row-typed [] ws i c h at = absurd (cc (at))
 row-typed (x ∷ cs) [] i c h at = absurd h
-row-typed (x ∷ cs) (w ∷ ws) zero c h at = let e : x ≡ c = cc (at) in subst (λ (y : Column). IsValue y.kind w) e h.0
+row-typed (x ∷ cs) (w ∷ ws) zero c h at = let e : x ≡ c = cc (at) in subst (λ (y : Column). IsValue y.value_type w) e h.0
 row-typed (x ∷ cs) (w ∷ ws) (suc i) c h at = row-typed cs ws i c h.1 at
 
 -- The word of a source is a value of its type.
@@ -42,7 +42,7 @@ source-typed : (b : Block) (joins : List (Option Source)) (now : ℤ) (row words
     → end_of b.declared r ≡ Some from → Gives from s → ((i : ℕ) → s ≡ source.Component i → i < n) → IsValue (type_of from) (word_at row words (Some (Some s)))
 source-typed b joins now row words n r (Input i t) s net vals run is h before =
     let c = end-ref b.declared r (Input i t) (sound b joins net) is in
-    let kind : t ≡ c.0.kind = c.3 in
+    let kind : t ≡ c.0.value_type = c.3 in
     subst (λ (x : Source). IsValue t (word_at row words (Some (Some x)))) (sym h) (subst (λ (u : ValueType). IsValue u (word row i)) (sym kind) (row-typed b.declared.inputs row i c.0 vals c.1))
 source-typed b joins now row words n r (Giver j t) s net vals run is h before =
     let c = end-ref b.declared r (Giver j t) (sound b joins net) is in
@@ -206,7 +206,7 @@ output-words f (c ∷ cs) (y ∷ ys) size h =
     let rest = output-words f cs ys (omega arith) (λ k d at. h (suc k) d at) in
     rw (first, rest) refl
 
-output-types : (cs : List Column) (ys : List ℤ) → length ys ≡ length cs → ((k : ℕ) (c : Column) → At cs k c → IsValue c.kind (word ys k)) → AreValues cs ys
+output-types : (cs : List Column) (ys : List ℤ) → length ys ≡ length cs → ((k : ℕ) (c : Column) → At cs k c → IsValue c.value_type (word ys k)) → AreValues cs ys
 output-types [] [] size h = tt
 output-types [] (y ∷ ys) size h = absurd (omega arith)
 output-types (c ∷ cs) [] size h = absurd (omega arith)
@@ -238,8 +238,8 @@ run-typed b joins now row words ys net vals run size is =
     let lt = at-lt b.declared.outputs k c at in
     let place : 0 + k ≡ k = omega arith in
     let w : word ys k ≡ word_at row words (slice_get joins k) = is k (omega arith) ∙ ap (λ (n : ℕ). word_at row words (slice_get joins n)) place in
-    subst (λ (z : ℤ). IsValue c.kind z) (sym w)
-    (sink-typed b joins now row words (length b.declared.components) (c.name ∷ []) (Output k c.kind) k s.0 net vals run (ref-output b.declared k c net.named at) refl s.1
+    subst (λ (z : ℤ). IsValue c.value_type z) (sym w)
+    (sink-typed b joins now row words (length b.declared.components) (c.name ∷ []) (Output k c.value_type) k s.0 net vals run (ref-output b.declared k c net.named at) refl s.1
     (λ i same. output-source b joins k i s.0 net s.1 same)))
 
 pub run-outputs : (b : Block) (joins : List (Option Source)) (now : ℤ) (row words ys : List ℤ) → IsNet b joins → IsRun b joins now row words (length b.declared.components)
@@ -251,7 +251,7 @@ run-outputs b joins now row words ys net run size is v sv = (
       let lt = at-lt b.declared.outputs k c at in
       let place : 0 + k ≡ k = omega arith in
       let w : word_at row words (slice_get joins k) ≡ word ys k = ap (λ (n : ℕ). word_at row words (slice_get joins n)) (sym place) ∙ sym (is k (omega arith)) in
-      let e = end-is b joins now row v (c.name ∷ []) (Output k c.kind) net sv (ref-output b.declared k c net.named at) in
+      let e = end-is b joins now row v (c.name ∷ []) (Output k c.value_type) net sv (ref-output b.declared k c net.named at) in
       let l = look-same row (values_in b v) (these words) (length b.declared.components) (slice_get joins k)
       (λ i same. let t : s.0 ≡ source.Component i = cc (s.1, same) in output-source b joins k i s.0 net s.1 t)
       (λ i il. run-values b joins now row words (length b.declared.components) v net run (omega arith) sv i il) in

@@ -47,7 +47,7 @@ nothing_declared = record { inputs = []; outputs = []; components = []; names = 
 abbrev pub with_part : Declarations → List ℕ → Part → Declarations
 with_part d name (part.Input t) =
     record {
-      inputs = d.inputs ++ record { name = name; kind = t } ∷ [];
+      inputs = d.inputs ++ record { name = name; value_type = t } ∷ [];
       outputs = d.outputs;
       components = d.components;
       names = d.names ++ record { name = name; place = place.Input (length d.inputs) } ∷ [];
@@ -55,7 +55,7 @@ with_part d name (part.Input t) =
 with_part d name (part.Output t) =
     record {
       inputs = d.inputs;
-      outputs = d.outputs ++ record { name = name; kind = t } ∷ [];
+      outputs = d.outputs ++ record { name = name; value_type = t } ∷ [];
       components = d.components;
       names = d.names ++ record { name = name; place = place.Output (length d.outputs) } ∷ [];
     }

@@ -2,7 +2,7 @@
 use Rattle.std.specs.Prelude.{ℕ, nat_lt, List, [], ◌∷◌, slice_get, Option, Some, None, option_and_then, if◌then◌else◌}
 use Rattle.std.specs.Option.{option_map}
 use Rattle.cdl_kinds.specs.declared.kind.Kind.{Kind}
-use Rattle.cdl_kinds.specs.declared.value.ValueType.{ValueType}
+use Rattle.cdl_values.specs.declared.value.ValueType.{ValueType}
 use Rattle.cdl_flat.specs.declared.part.Place.{Place}
 use Rattle.cdl_flat.specs.declared.part.Place.TheVariants as place
 use Rattle.cdl_flat.specs.declared.part.End.{End}
@@ -19,8 +19,8 @@ end_of_port j port k = option_map (port_end j k) (port_named k port)
 
 -- an own connector
 abbrev pub own_end : Declarations → Option Place → Option End
-own_end d (Some (place.Input i)) = option_map (Input i) (option_map (λ c. c.kind) (slice_get d.inputs i))
-own_end d (Some (place.Output k)) = option_map (Output k) (option_map (λ c. c.kind) (slice_get d.outputs k))
+own_end d (Some (place.Input i)) = option_map (Input i) (option_map (λ c. c.value_type) (slice_get d.inputs i))
+own_end d (Some (place.Output k)) = option_map (Output k) (option_map (λ c. c.value_type) (slice_get d.outputs k))
 own_end d _ = None
 
 -- a port of a component

@@ -1,10 +1,14 @@
 -- The rules of a flat block.
-use Rattle.std.specs.Prelude.{◌≡◌, ◌≤◌, ◌<◌, ℕ, true, List, [], length, Option, Some, None, ◌-◌}
+use Rattle.std.specs.Prelude.{◌≡◌, ◌≤◌, ◌<◌, ℕ, Bool, true, false, List, [], ◌∷◌, ◌++◌, length, Option, Some, None, ◌-◌}
 use Rattle.std.specs.Option.{IsSome}
 use Rattle.cdl_source.specs.declared.limits.TheConstants.{MOST_INSTANCES}
-use Rattle.cdl_kinds.specs.declared.value.ValueType.{ValueType}
+use Rattle.cdl_values.specs.declared.value.ValueType.{ValueType}
 use Rattle.cdl_tree.specs.declared.class.Item.{Item}
 use Rattle.cdl_tree.specs.declared.class.Connect.{Connect}
+use Rattle.cdl_tree.specs.declared.class.Loop.{Loop}
+use Rattle.cdl_tree.specs.declared.class.Statement.{Statement, out-Statement}
+use Rattle.cdl_tree.specs.declared.class.Statement.TheOpen.{Statement-F}
+use Rattle.std.specs.List.{list_all}
 use Rattle.cdl_tree.specs.declared.class.Ref.{Ref}
 use Rattle.cdl_tree.specs.declared.class.Prefix.TheVariants.{Plain}
 use Rattle.cdl_flat.specs.declared.part.Part.{Part}
@@ -29,9 +33,9 @@ pub record IsStraight (reference : Ref) : Type 0 where
 
 -- It joins what gives values to what takes values of the same type.
 pub record IsTyped (d : Declarations) (w : Wire) : Type 0 where
-  pub kind : ValueType
-  pub source : given_type (end_of d w.source) ≡ Some kind
-  pub sink : taken_type (end_of d w.sink) ≡ Some kind
+  pub value_type : ValueType
+  pub source : given_type (end_of d w.source) ≡ Some value_type
+  pub sink : taken_type (end_of d w.sink) ≡ Some value_type
 
 -- A component gives values only to components that are declared later.
 abbrev pub IsForward : Option End → Option End → Type 0
@@ -58,3 +62,24 @@ pub record IsFlat (items : List Item) (parts : List (Option Part)) (connects : L
   pub once : Differ (λ (w : Wire). w.sink) (block_of items parts connects).wires
   -- a component takes values from own inputs, and from components that are declared earlier
   pub forward : Each (λ w. IsForward (end_of (block_of items parts connects).declared w.source) (end_of (block_of items parts connects).declared w.sink)) (block_of items parts connects).wires
+
+abbrev pub connect_at : Statement-F Statement Loop → List Connect
+connect_at (Statement-F.Connect c) = c ∷ []
+connect_at (Statement-F.Loop l) = []
+
+-- the connect statements among these
+abbrev pub connects_in : List Statement → List Connect
+connects_in [] = []
+connects_in (s ∷ ss) = connect_at (out-Statement s) ++ connects_in ss
+
+abbrev pub is_connect_at : Statement-F Statement Loop → Bool
+is_connect_at (Statement-F.Connect c) = true
+is_connect_at (Statement-F.Loop l) = false
+
+abbrev pub is_connect : Statement → Bool
+is_connect s = is_connect_at (out-Statement s)
+
+-- The items, each of which is this part, and the statements, none of which is a loop, are those of a flat block.
+pub record IsFlatBlock (items : List Item) (parts : List (Option Part)) (statements : List Statement) : Type 0 where
+  pub straight : list_all is_connect statements ≡ true
+  pub flat : IsFlat items parts (connects_in statements)

@@ -1,8 +1,11 @@
 -- Joining the sources of a block to its sinks, one statement after another.
 use Rattle.std.specs.Prelude.{ℕ, zero, suc, ◌+◌, ◌*◌, ◌&&◌, ◌==◌, nat_lt, Bool, true, false, List, [], ◌∷◌, length, slice_get, slice_set, replicate, Option, Some, None, option_and_then, if◌then◌else◌}
-use Rattle.cdl_kinds.specs.declared.value.ValueType.{ValueType}
-use Rattle.cdl_kinds.specs.declared.value.ValueType.TheVariants.{Boolean, Integer, Real, Str, Enumeration}
+use Rattle.cdl_values.specs.declared.value.ValueType.{ValueType}
+use Rattle.cdl_values.specs.declared.value.ValueType.TheVariants.{Boolean, Integer, Real, Str, Enumeration}
 use Rattle.cdl_tree.specs.declared.class.Connect.{Connect}
+use Rattle.cdl_tree.specs.declared.class.Loop.{Loop}
+use Rattle.cdl_tree.specs.declared.class.Statement.{Statement, out-Statement}
+use Rattle.cdl_tree.specs.declared.class.Statement.TheOpen.{Statement-F}
 use Rattle.cdl_tree.specs.declared.class.Part.{Part}
 use Rattle.cdl_tree.specs.declared.class.Ref.{Ref}
 use Rattle.cdl_flat.specs.declared.part.Component.{Component}
@@ -77,9 +80,21 @@ put joins e = put_free joins e (slice_get joins e.place)
 abbrev pub join : Declarations → List (Option Source) → Connect → Option (List (Option Source))
 join d joins c = option_and_then (put joins) (edge_of d c)
 
-abbrev pub join_all : Declarations → List (Option Source) → List Connect → Option (List (Option Source))
+abbrev pub join_each : Declarations → List (Option Source) → List Connect → Option (List (Option Source))
+join_each d joins [] = Some joins
+join_each d joins (c ∷ cs) = option_and_then (λ j. join_each d j cs) (join d joins c)
+
+-- a loop joins nothing that is flat
+abbrev pub join_at : Declarations → List (Option Source) → Statement-F Statement Loop → Option (List (Option Source))
+join_at d joins (Statement-F.Connect c) = join d joins c
+join_at d joins (Statement-F.Loop l) = None
+
+unfoldable pub join_statement : Declarations → List (Option Source) → Statement → Option (List (Option Source))
+join_statement d joins s = join_at d joins (out-Statement s)
+
+abbrev pub join_all : Declarations → List (Option Source) → List Statement → Option (List (Option Source))
 join_all d joins [] = Some joins
-join_all d joins (c ∷ cs) = option_and_then (λ j. join_all d j cs) (join d joins c)
+join_all d joins (s ∷ ss) = option_and_then (λ j. join_all d j ss) (join_statement d joins s)
 
 abbrev pub is_joined_place : Option (Option Source) → Bool
 is_joined_place (Some (Some s)) = true

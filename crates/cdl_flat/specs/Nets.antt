@@ -16,7 +16,7 @@ use Rattle.cdl_flat.specs.Lists.{At, Each, Has}
 use Rattle.cdl_flat.specs.PlainKinds.{is_plain_kind, input_count}
 use Rattle.cdl_flat.specs.Blocks.{Declarations, Wire, Block, nothing_declared, place_of}
 use Rattle.cdl_flat.specs.Ends.{end_of}
-use Rattle.cdl_flat.specs.Joining.{edge_between, input_place, no_joins, join_all, is_full}
+use Rattle.cdl_flat.specs.Joining.{edge_between, input_place, no_joins, join_each, is_full}
 
 -- The names of these elements stand for their places, and no other name does.
 pub record Stands {X : Type 0} (name : X → List ℕ) (place_at : ℕ → Place) (xs : List X) (d : Declarations) : Type 0 where
@@ -52,7 +52,7 @@ pub record IsNet (b : Block) (joins : List (Option Source)) : Type 0 where
 pub record IsFound (items : List Item) (parts : List (Option Part)) (connects : List Connect) (d : Declarations) (joins : List (Option Source)) : Type 0 where
   pub declared : declare_all nothing_declared items parts ≡ Some d
   pub few : length d.components ≤ MOST_INSTANCES - 1
-  pub joined : join_all d (no_joins d) connects ≡ Some joins
+  pub joined : join_each d (no_joins d) connects ≡ Some joins
   pub full : is_full d joins ≡ true
 
 -- So is a net whose places can be counted.

@@ -2,8 +2,8 @@
 use Rattle.std.specs.Prelude.{◌≡◌, ◌<◌, ℕ, zero, suc, ◌+◌, ◌-◌, ◌==◌, ◌&&◌, nat_lt, ℤ, Bool, List, [], length, Option, Some, None, cond, if◌then◌else◌}
 use Rattle.std.specs.Str.{bytes_eq}
 use Rattle.cdl_kinds.specs.declared.kind.Kind.{Kind}
-use Rattle.cdl_kinds.specs.declared.value.ValueType.{ValueType}
-use Rattle.cdl_kinds.specs.History.{IsValue, word}
+use Rattle.cdl_values.specs.declared.value.ValueType.{ValueType}
+use Rattle.cdl_values.specs.History.{IsValue, word}
 use Rattle.cdl_kinds.specs.Meanings.{meaning}
 use Rattle.cdl_kinds.specs.Parameters.{parameters}
 use Rattle.cdl_kinds.specs.Ports.{inputs, outputs, port_at}
@@ -28,7 +28,7 @@ unfoldable pub port_name : Kind → ℕ → List ℕ
 port_name k p = (port_at k [] p).name
 
 unfoldable pub port_type : Kind → ℕ → ValueType
-port_type k p = cond (nat_lt p (inputs k []).count) ((inputs k []).sort p) ((outputs k []).sort (p - (inputs k []).count))
+port_type k p = cond (nat_lt p (inputs k []).count) ((inputs k []).value_type p) ((outputs k []).value_type (p - (inputs k []).count))
 
 -- the first port of that name among n ports from the p-th on
 abbrev pub port_from : Kind → List ℕ → ℕ → ℕ → Option ℕ

@@ -1,7 +1,7 @@
 -- A tick in numbers: what the components and the outputs of a block with its joins take and give.
 use Rattle.std.specs.Prelude.{◌≡◌, ◌<◌, ◌+◌, ◌*◌, ℕ, zero, suc, ℤ, pos, List, [], length, slice_get, Option, Some, None, option_and_then}
 use Rattle.std.specs.Option.{option_map}
-use Rattle.cdl_kinds.specs.History.{IsValue, word}
+use Rattle.cdl_values.specs.History.{IsValue, word}
 use Rattle.cdl_flat.specs.declared.part.Component.{Component}
 use Rattle.cdl_flat.specs.declared.part.Source.{Source}
 use Rattle.cdl_flat.specs.declared.part.Source.TheVariants as source

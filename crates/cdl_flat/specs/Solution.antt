@@ -1,7 +1,7 @@
 -- What the statements of a block say: its equations at one tick, apart from the way they are computed.
 use Rattle.std.specs.Prelude.{◌≡◌, ◌<◌, ◌+◌, ℕ, zero, suc, ℤ, List, [], ◌∷◌, map, Option, Some, None, option_and_then}
 use Rattle.std.specs.Option.{option_map, IsSome}
-use Rattle.cdl_kinds.specs.History.{word}
+use Rattle.cdl_values.specs.History.{word}
 use Rattle.cdl_table.specs.declared.column.Column.{Column}
 use Rattle.cdl_flat.specs.declared.part.Component.{Component}
 use Rattle.cdl_flat.specs.Lists.{At, Each}

@@ -9,10 +9,11 @@ ghost use Rattle.cdl_flat.specs.PlainKinds.{is_plain_kind};
 
 use crate::part::{Component, Part, Place};
 use crate::plain_kind::is_plain_kind;
-use cdl_kinds::{Kind, ValueType};
+use cdl_kinds::Kind;
 use cdl_source::{List, OutOfMemory, Text};
 use cdl_table::Column;
 use cdl_tree::{Item, Prefix};
+use cdl_values::ValueType;
 use indexmap::IndexMap;
 use std::alloc::Global;
 use std::marker::Model;
@@ -42,11 +43,11 @@ impl Model for Declared {
     ghost invariant = { λ d. Each (λ c. is_plain_kind c.kind ≡ true) d.components };
 }
 
-fn column(alloc: Global, name: &[u8], kind: ValueType) -> Result<Column, OutOfMemory>
-    ensures { IfOk result (λ c. c ≡ record { name = name.now; kind = kind }) }
+fn column(alloc: Global, name: &[u8], value_type: ValueType) -> Result<Column, OutOfMemory>
+    ensures { IfOk result (λ c. c ≡ record { name = name.now; value_type = value_type }) }
 {
     let name = Text::from_bytes(alloc, name)?;
-    Ok(Column { name, kind })
+    Ok(Column { name, value_type })
 }
 
 /// Equal columns.
@@ -55,7 +56,7 @@ pub(crate) fn copy_columns(alloc: Global, columns: &[Column]) -> Result<List<Col
 {
     let mut copies = List::new(alloc);
     for one in columns {
-        copies.push(column(alloc, one.name.bytes(), one.kind)?)?;
+        copies.push(column(alloc, one.name.bytes(), one.value_type)?)?;
     }
     Ok(copies)
 }
@@ -97,9 +98,9 @@ impl Declared {
         self.places.get(name).copied()
     }
 
-    fn with_input(self, name: &[u8], kind: ValueType) -> Result<Declared, OutOfMemory>
+    fn with_input(self, name: &[u8], value_type: ValueType) -> Result<Declared, OutOfMemory>
         requires { place_of self name.now ≡ None }
-        ensures { IfOk result (λ d. d ≡ with_part self name.now (Part.Input kind)) }
+        ensures { IfOk result (λ d. d ≡ with_part self name.now (Part.Input value_type)) }
     {
         let Declared {
             alloc,
@@ -110,7 +111,7 @@ impl Declared {
         } = self;
         let number = inputs.items().len();
         let places = add_name(alloc, places, name, Place::Input(number))?;
-        inputs.push(column(alloc, name, kind)?)?;
+        inputs.push(column(alloc, name, value_type)?)?;
         Ok(Declared {
             alloc,
             inputs,
@@ -120,9 +121,9 @@ impl Declared {
         })
     }
 
-    fn with_output(self, name: &[u8], kind: ValueType) -> Result<Declared, OutOfMemory>
+    fn with_output(self, name: &[u8], value_type: ValueType) -> Result<Declared, OutOfMemory>
         requires { place_of self name.now ≡ None }
-        ensures { IfOk result (λ d. d ≡ with_part self name.now (Part.Output kind)) }
+        ensures { IfOk result (λ d. d ≡ with_part self name.now (Part.Output value_type)) }
     {
         let Declared {
             alloc,
@@ -133,7 +134,7 @@ impl Declared {
         } = self;
         let number = outputs.items().len();
         let places = add_name(alloc, places, name, Place::Output(number))?;
-        outputs.push(column(alloc, name, kind)?)?;
+        outputs.push(column(alloc, name, value_type)?)?;
         Ok(Declared {
             alloc,
             inputs,
@@ -174,8 +175,8 @@ impl Declared {
         ensures { IfOk result (λ d. d ≡ with_part self name.now part) }
     {
         match part {
-            Part::Input(kind) => self.with_input(name, kind),
-            Part::Output(kind) => self.with_output(name, kind),
+            Part::Input(value_type) => self.with_input(name, value_type),
+            Part::Output(value_type) => self.with_output(name, value_type),
             Part::Component(kind) => self.with_component(name, kind),
         }
     }

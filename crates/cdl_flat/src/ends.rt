@@ -9,17 +9,18 @@ ghost use Rattle.cdl_flat.specs.PlainKinds.{is_plain_kind, port_count};
 use crate::declared::Declared;
 use crate::part::{End, Place};
 use crate::plain_kind::{input_count, port_named, port_type};
-use cdl_kinds::{Kind, ValueType};
+use cdl_kinds::Kind;
 use cdl_table::Column;
 use cdl_tree::{Part, Ref};
+use cdl_values::ValueType;
 use std::alloc::Global;
 
 // The type of the column of that number.
 fn kind_at(columns: &[Column], number: usize) -> Option<ValueType>
-    ensures { result ≡ option_map (λ c. c.kind) (slice_get columns.now number) }
+    ensures { result ≡ option_map (λ c. c.value_type) (slice_get columns.now number) }
 {
     if number < columns.len() {
-        Some(columns[number].kind)
+        Some(columns[number].value_type)
     } else {
         None
     }
@@ -31,17 +32,17 @@ fn port_end(alloc: Global, component: usize, kind: Kind, port: usize) -> End
     requires within { port < port_count kind }
     ensures { result ≡ spec.port_end component kind port }
 {
-    let sort = port_type(alloc, kind, port);
+    let value_type = port_type(alloc, kind, port);
     if port < input_count(alloc, kind) {
         End::Taker {
             component,
             port,
-            kind: sort,
+            value_type,
         }
     } else {
         End::Giver {
             component,
-            kind: sort,
+            value_type,
         }
     }
 }
@@ -63,11 +64,11 @@ fn own_end(declared: &Declared, place: Option<Place>) -> Option<End>
 {
     match place {
         Some(Place::Input(number)) => match kind_at(declared.inputs().items(), number) {
-            Some(kind) => Some(End::Input { number, kind }),
+            Some(value_type) => Some(End::Input { number, value_type }),
             None => None,
         },
         Some(Place::Output(number)) => match kind_at(declared.outputs().items(), number) {
-            Some(kind) => Some(End::Output { number, kind }),
+            Some(value_type) => Some(End::Output { number, value_type }),
             None => None,
         },
         _ => None,

@@ -1,7 +1,7 @@
 // Flat blocks.
 ghost use Rattle.std.specs.Prelude.{◌≡◌, ◌<◌, length, IfOk, IfSome, IsSome, slice_get, Some};
 ghost use Rattle.cdl_flat.specs.Blocks.{block_of};
-ghost use Rattle.cdl_flat.specs.Flat.{IsFlat};
+ghost use Rattle.cdl_flat.specs.Flat.{IsFlatBlock, connects_in};
 ghost use Rattle.cdl_flat.specs.NetBlocks.{net_block};
 ghost use Rattle.cdl_flat.specs.Nets.{IsReady};
 ghost use Rattle.cdl_flat.specs.declared.part.Component.{Component};
@@ -11,7 +11,7 @@ use crate::joins::{is_full, join_all};
 use crate::part::{Part, Source};
 use cdl_source::{List, MOST_INSTANCES, OutOfMemory, Text};
 use cdl_table::Column;
-use cdl_tree::{Connect, Item};
+use cdl_tree::{Item, Statement};
 use std::alloc::Global;
 use std::marker::Model;
 
@@ -23,7 +23,7 @@ const MOST_COMPONENTS: usize = MOST_INSTANCES as usize - 1;
 pub(crate) struct Net<'t> {
     pub(crate) declared: Declared,
     pub(crate) joins: Vec<Option<Source>>,
-    pub(crate) connects: &'t [Connect],
+    pub(crate) statements: &'t [Statement],
 }
 
 /// A flat block, which contracts see as what it declares and what its statements join.
@@ -51,12 +51,12 @@ impl<'t> Flat<'t> {
         alloc: Global,
         items: &[Item],
         parts: &[Option<Part>],
-        connects: &'t [Connect],
+        statements: &'t [Statement],
     ) -> Result<Option<Flat<'t>>, OutOfMemory>
         requires { length items.now ≡ length parts.now }
-        ensures flat { IfOk result (λ o. IfSome o (λ f. IsFlat items.now parts.now connects.now)) }
-        ensures block { IfOk result (λ o. IfSome o (λ f. f ≡ block_of items.now parts.now connects.now)) }
-        ensures some { IfOk result (λ o. IsFlat items.now parts.now connects.now → IsSome o) }
+        ensures flat { IfOk result (λ o. IfSome o (λ f. IsFlatBlock items.now parts.now statements.now)) }
+        ensures block { IfOk result (λ o. IfSome o (λ f. f ≡ block_of items.now parts.now (connects_in statements.now))) }
+        ensures some { IfOk result (λ o. IsFlatBlock items.now parts.now statements.now → IsSome o) }
     {
         let Some(declared) = declare_all(alloc, items, parts)? else {
             return Ok(None);
@@ -64,7 +64,7 @@ impl<'t> Flat<'t> {
         if declared.components().len() > MOST_COMPONENTS {
             return Ok(None);
         }
-        let Some(joins) = join_all(alloc, &declared, connects)? else {
+        let Some(joins) = join_all(alloc, &declared, statements)? else {
             return Ok(None);
         };
         if !is_full(&declared, &joins) {
@@ -74,7 +74,7 @@ impl<'t> Flat<'t> {
             net: Net {
                 declared,
                 joins,
-                connects,
+                statements,
             },
         }))
     }

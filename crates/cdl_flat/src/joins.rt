@@ -9,9 +9,9 @@ use crate::declared::Declared;
 use crate::ends::straight_end;
 use crate::part::{Component, Edge, End, Source};
 use crate::plain_kind::input_count;
-use cdl_kinds::ValueType;
 use cdl_source::{MOST_INSTANCES, OutOfMemory};
-use cdl_tree::Connect;
+use cdl_tree::{Connect, Statement};
+use cdl_values::ValueType;
 use std::alloc::Global;
 
 fn same_type(a: ValueType, b: ValueType) -> bool
@@ -48,27 +48,27 @@ fn edge_between(outputs: usize, count: usize, from: End, to: End) -> Option<Edge
 {
     match (from, to) {
         (
-            End::Input { number, kind },
+            End::Input { number, value_type },
             End::Output {
                 number: place,
-                kind: other,
+                value_type: other,
             },
         ) => {
-            if same_type(kind, other) {
+            if same_type(value_type, other) {
                 let source = Source::Input(number);
                 return Some(Edge { place, source });
             }
             None
         }
         (
-            End::Input { number, kind },
+            End::Input { number, value_type },
             End::Taker {
                 component,
                 port,
-                kind: other,
+                value_type: other,
             },
         ) => {
-            if same_type(kind, other) && has_place(count, component, port) {
+            if same_type(value_type, other) && has_place(count, component, port) {
                 let place = input_place(outputs, component, port);
                 let source = Source::Input(number);
                 return Some(Edge { place, source });
@@ -76,13 +76,16 @@ fn edge_between(outputs: usize, count: usize, from: End, to: End) -> Option<Edge
             None
         }
         (
-            End::Giver { component, kind },
+            End::Giver {
+                component,
+                value_type,
+            },
             End::Output {
                 number: place,
-                kind: other,
+                value_type: other,
             },
         ) => {
-            if same_type(kind, other) {
+            if same_type(value_type, other) {
                 let source = Source::Component(component);
                 return Some(Edge { place, source });
             }
@@ -91,15 +94,18 @@ fn edge_between(outputs: usize, count: usize, from: End, to: End) -> Option<Edge
         (
             End::Giver {
                 component: giver,
-                kind,
+                value_type,
             },
             End::Taker {
                 component,
                 port,
-                kind: other,
+                value_type: other,
             },
         ) => {
-            if same_type(kind, other) && has_place(count, component, port) && giver < component {
+            if same_type(value_type, other)
+                && has_place(count, component, port)
+                && giver < component
+            {
                 let place = input_place(outputs, component, port);
                 let source = Source::Component(giver);
                 return Some(Edge { place, source });
@@ -142,8 +148,8 @@ fn put(joins: &mut [Option<Source>], edge: Edge) -> bool
     }
 }
 
-// Joins what a statement joins. False: it has no edge, or its place is joined already.
-fn join(declared: &Declared, joins: &mut [Option<Source>], connect: &Connect) -> bool
+// Joins what a connect statement joins. False: it has no edge, or its place is joined already.
+fn join_ends(declared: &Declared, joins: &mut [Option<Source>], connect: &Connect) -> bool
     requires { length declared.now.outputs + 3 * length declared.now.components < 2 ^ 64 }
     ensures { spec.join declared.now joins.old connect.now ≡ (if result then Some joins.new else None) }
 {
@@ -153,14 +159,26 @@ fn join(declared: &Declared, joins: &mut [Option<Source>], connect: &Connect) ->
     }
 }
 
+// Joins what a statement joins. False: it is a loop, has no edge, or its place is joined already.
+#[tactic(auto, unfolding(crate::specs::Joining::join_statement))]
+fn join(declared: &Declared, joins: &mut [Option<Source>], statement: &Statement) -> bool
+    requires { length declared.now.outputs + 3 * length declared.now.components < 2 ^ 64 }
+    ensures { spec.join_statement declared.now joins.old statement.now ≡ (if result then Some joins.new else None) }
+{
+    match statement {
+        Statement::Connect(connect) => join_ends(declared, joins, connect),
+        Statement::Loop(_) => false,
+    }
+}
+
 /// The source of each sink that the statements join; None where one of them joins no source to a free sink.
 pub(crate) fn join_all(
     alloc: Global,
     declared: &Declared,
-    connects: &[Connect],
+    statements: &[Statement],
 ) -> Result<Option<Vec<Option<Source>>>, OutOfMemory>
     requires { length declared.now.components ≤ MOST_INSTANCES - 1 }
-    ensures joins { IfOk result (λ joins. option_map (λ v. v.items) joins ≡ spec.join_all declared.now (spec.no_joins declared.now) connects.now) }
+    ensures joins { IfOk result (λ joins. option_map (λ v. v.items) joins ≡ spec.join_all declared.now (spec.no_joins declared.now) statements.now) }
     ensures room { IfOk result (λ _. length declared.now.outputs + 3 * length declared.now.components < 2 ^ 64) }
 {
     let places = 3 * declared.components().len();
@@ -168,8 +186,8 @@ pub(crate) fn join_all(
         return Err(OutOfMemory);
     };
     let mut joins = vec![in alloc; None; places]?;
-    for connect in connects {
-        if !join(declared, &mut joins, connect) {
+    for statement in statements {
+        if !join(declared, &mut joins, statement) {
             return Ok(None);
         }
     }

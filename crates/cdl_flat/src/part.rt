@@ -1,6 +1,7 @@
 // What the items of a block are.
-use cdl_kinds::{Kind, ValueType};
+use cdl_kinds::Kind;
 use cdl_source::Text;
+use cdl_values::ValueType;
 
 /// What the class of an item is.
 #[derive(Clone, Copy, Debug, PartialEq, Eq)]
@@ -34,23 +35,23 @@ pub enum End {
     /// The own input of this number.
     Input {
         number: usize,
-        kind: ValueType,
+        value_type: ValueType,
     },
     /// The own output of this number.
     Output {
         number: usize,
-        kind: ValueType,
+        value_type: ValueType,
     },
     /// The input of this number of the component of this number.
     Taker {
         component: usize,
         port: usize,
-        kind: ValueType,
+        value_type: ValueType,
     },
     /// The output of the component of this number.
     Giver {
         component: usize,
-        kind: ValueType,
+        value_type: ValueType,
     },
 }
 

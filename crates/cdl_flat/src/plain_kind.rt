@@ -2,15 +2,14 @@
 ghost use Rattle.std.specs.Prelude.{◌≡◌, ◌<◌, ◌≤◌, ◌+◌, ℕ, [], ◌∷◌, true, MatchResult, IfOk, IfSome, Some, None, length};
 ghost use Rattle.std.specs.Str.{bytes_eq};
 ghost use Rattle.cdl_kinds.specs.Conditions.{Keeps};
-ghost use Rattle.cdl_kinds.specs.History.{IsTime, IsValue};
+ghost use Rattle.cdl_values.specs.History.{IsTime, IsValue};
 ghost use Rattle.cdl_flat.specs.PlainKinds as spec;
 
 use cdl_blocks::{AnyBlock, is_memoryless};
-use cdl_kinds::words::read;
-use cdl_kinds::{
-    Elementary, Kind, NoValue, Params, Steps, ValueType, check, parameters, port, port_count,
-};
+use cdl_kinds::{Elementary, Kind, Params, Steps, check, parameters, port, port_count};
 use cdl_source::List;
+use cdl_values::words::read;
+use cdl_values::{NoValue, ValueType};
 use std::alloc::Global;
 use std::sync::ledger::Ledger;
 
@@ -62,7 +61,7 @@ fn type_of(kind: Kind, params: &Params, number: usize) -> ValueType
     requires within { number < spec.port_count kind }
     ensures { result ≡ spec.port_type kind number }
 {
-    port(kind, params, number).kind
+    port(kind, params, number).value_type
 }
 
 // Whether the port of that number has this name.

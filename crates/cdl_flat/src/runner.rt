@@ -1,6 +1,6 @@
 // Running a flat block.
 ghost use Rattle.std.specs.Prelude.{◌≡◌, ◌<◌, ◌+◌, ◌^◌, ℕ, length, slice_get, Some, IfOk, IfErr, OnOk, MatchResult};
-ghost use Rattle.cdl_kinds.specs.History.{IsTime, word};
+ghost use Rattle.cdl_values.specs.History.{IsTime, word};
 ghost use Rattle.cdl_table.specs.Values.{AreValues};
 ghost use Rattle.cdl_flat.specs.declared.part.Component.{Component};
 ghost use Rattle.cdl_flat.specs.NetBlocks.{net_block};
@@ -11,8 +11,9 @@ ghost use Rattle.cdl_flat.specs.Solution.{GivesOutputs, HasFault, HasSolution};
 use crate::flat::{Flat, Net};
 use crate::part::Source;
 use crate::plain_kind::{compute, input_count};
-use cdl_kinds::{NoValue, Steps};
+use cdl_kinds::Steps;
 use cdl_source::{OutOfMemory, Text};
+use cdl_values::NoValue;
 use std::alloc::Global;
 use std::marker::Model;
 use std::sync::ledger::Ledger;

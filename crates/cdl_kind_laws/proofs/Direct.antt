@@ -2,98 +2,99 @@
 use Rattle.std.proofs.Common.{◌≡◌, refl, ap, Bool, true, false, cond, ℤ, List, [], ◌∷◌}
 use Rattle.std.specs.Prelude.{Some}
 use Rattle.cdl_kinds.specs.declared.kind.Kind.{Kind}
-use Rattle.cdl_kinds.specs.declared.kind.Kind.TheVariants.{LogicalAnd, LogicalOr, LogicalNand, LogicalNor, LogicalXor, LogicalNot, LogicalMultiAnd, LogicalMultiOr, LogicalEdge, LogicalFallingEdge, LogicalChange, LogicalLatch, LogicalToggle, LogicalPre, LogicalSwitch, IntegersSwitch, RealsSwitch, LogicalTimer, LogicalTimerAccumulating, LogicalTrueDelay, LogicalTrueFalseHold, LogicalSourcesConstant, IntegersSourcesConstant, RealsSourcesConstant, LogicalSourcesPulse, IntegersAbs, RealsAbs, IntegersAdd, IntegersSubtract, IntegersMultiply, IntegersMax, IntegersMin, IntegersAddParameter, IntegersMultiSum, IntegersEqual, IntegersGreater, IntegersGreaterEqual, IntegersLess, IntegersLessEqual, IntegersGreaterThreshold, IntegersGreaterEqualThreshold, IntegersLessThreshold, IntegersLessEqualThreshold, IntegersChange, IntegersOnCounter, RealsAdd, RealsSubtract, RealsMultiply, RealsDivide, RealsMax, RealsMin, RealsAddParameter, RealsMultiplyByParameter, RealsAverage, RealsModulo, RealsMultiSum, RealsMultiMax, RealsMultiMin, RealsGreater, RealsLess, RealsGreaterThreshold, RealsLessThreshold, RealsHysteresis, RealsLimiter, RealsLine, ConversionsBooleanToInteger, ConversionsBooleanToReal, ConversionsIntegerToReal, ConversionsRealToInteger, DiscreteSampler, DiscreteZeroOrderHold, DiscreteUnitDelay, DiscreteTriggeredSampler, DiscreteTriggeredMax, DiscreteTriggeredMovingMean, RoutingBooleanScalarReplicator, RoutingIntegerScalarReplicator, RoutingRealScalarReplicator}
-use Rattle.cdl_kinds.specs.declared.value.Array.{Array}
-use Rattle.cdl_kinds.specs.History.{History, SameDirect, word}
-use Rattle.cdl_kinds.specs.Laws.{all_direct}
+use Rattle.cdl_kinds.specs.declared.kind.Kind.TheVariants as kind
+use Rattle.cdl_values.specs.declared.value.Array.{Array}
+use Rattle.cdl_values.specs.History.{History, SameDirect, word}
+use Rattle.cdl_values.proofs.Laws.{same_inputs}
 use Rattle.cdl_kinds.specs.Meaning.Discrete.{sampled, samples, second_or}
 use Rattle.cdl_kinds.specs.Meanings.{meaning}
-use Rattle.cdl_kinds.specs.Ports.{inputs, ports}
-use Rattle.cdl_kinds.specs.Values.{real_at}
+use Rattle.cdl_kinds.specs.Ports.{inputs}
+use Rattle.cdl_kinds.specs.Table.{row}
+use Rattle.cdl_values.specs.Values.{real_at}
 
-by_direct : (k : Kind) → (ports k).direct ≡ true → (v : List Array) (h : History) (now : ℤ) (x y : List ℤ) → SameDirect (inputs k v) x y → meaning k v h now x ≡ meaning k v h now y
-by_direct k d v h now x y s = ap (λ (z : List ℤ). meaning k v h now z) (all_direct (inputs k v) x y (λ _. d) s)
+by_direct : (k : Kind) → (row k).direct ≡ true → (v : List Array) (h : History) (now : ℤ) (x y : List ℤ) → SameDirect (inputs k v) x y → meaning k v h now x ≡ meaning k v h now y
+by_direct k d v h now x y s = ap (λ (z : List ℤ). meaning k v h now z) (same_inputs (inputs k v) x y (λ _. d) s)
 
 second_sample : (start : ℤ) (b : Bool) (w z : ℤ) (us : List ℤ) → Some (second_or start (cond b (w ∷ us) us) ∷ []) ≡ Some (second_or start (cond b (z ∷ us) us) ∷ [])
 second_sample start true w z us = refl
 second_sample start false w z us = refl
 
 pub direct_only : (k : Kind) (v : List Array) (h : History) (now : ℤ) (x y : List ℤ) → SameDirect (inputs k v) x y → meaning k v h now x ≡ meaning k v h now y
-direct_only LogicalAnd v h now x y s = by_direct LogicalAnd refl v h now x y s
-direct_only LogicalOr v h now x y s = by_direct LogicalOr refl v h now x y s
-direct_only LogicalNand v h now x y s = by_direct LogicalNand refl v h now x y s
-direct_only LogicalNor v h now x y s = by_direct LogicalNor refl v h now x y s
-direct_only LogicalXor v h now x y s = by_direct LogicalXor refl v h now x y s
-direct_only LogicalNot v h now x y s = by_direct LogicalNot refl v h now x y s
-direct_only LogicalMultiAnd v h now x y s = by_direct LogicalMultiAnd refl v h now x y s
-direct_only LogicalMultiOr v h now x y s = by_direct LogicalMultiOr refl v h now x y s
-direct_only LogicalEdge v h now x y s = by_direct LogicalEdge refl v h now x y s
-direct_only LogicalFallingEdge v h now x y s = by_direct LogicalFallingEdge refl v h now x y s
-direct_only LogicalChange v h now x y s = by_direct LogicalChange refl v h now x y s
-direct_only LogicalLatch v h now x y s = by_direct LogicalLatch refl v h now x y s
-direct_only LogicalToggle v h now x y s = by_direct LogicalToggle refl v h now x y s
-direct_only LogicalPre v h now x y s = refl
-direct_only LogicalSwitch v h now x y s = by_direct LogicalSwitch refl v h now x y s
-direct_only IntegersSwitch v h now x y s = by_direct IntegersSwitch refl v h now x y s
-direct_only RealsSwitch v h now x y s = by_direct RealsSwitch refl v h now x y s
-direct_only LogicalTimer v h now x y s = by_direct LogicalTimer refl v h now x y s
-direct_only LogicalTimerAccumulating v h now x y s = by_direct LogicalTimerAccumulating refl v h now x y s
-direct_only LogicalTrueDelay v h now x y s = by_direct LogicalTrueDelay refl v h now x y s
-direct_only LogicalTrueFalseHold v h now x y s = by_direct LogicalTrueFalseHold refl v h now x y s
-direct_only LogicalSourcesConstant v h now x y s = by_direct LogicalSourcesConstant refl v h now x y s
-direct_only IntegersSourcesConstant v h now x y s = by_direct IntegersSourcesConstant refl v h now x y s
-direct_only RealsSourcesConstant v h now x y s = by_direct RealsSourcesConstant refl v h now x y s
-direct_only LogicalSourcesPulse v h now x y s = by_direct LogicalSourcesPulse refl v h now x y s
-direct_only IntegersAbs v h now x y s = by_direct IntegersAbs refl v h now x y s
-direct_only RealsAbs v h now x y s = by_direct RealsAbs refl v h now x y s
-direct_only IntegersAdd v h now x y s = by_direct IntegersAdd refl v h now x y s
-direct_only IntegersSubtract v h now x y s = by_direct IntegersSubtract refl v h now x y s
-direct_only IntegersMultiply v h now x y s = by_direct IntegersMultiply refl v h now x y s
-direct_only IntegersMax v h now x y s = by_direct IntegersMax refl v h now x y s
-direct_only IntegersMin v h now x y s = by_direct IntegersMin refl v h now x y s
-direct_only IntegersAddParameter v h now x y s = by_direct IntegersAddParameter refl v h now x y s
-direct_only IntegersMultiSum v h now x y s = by_direct IntegersMultiSum refl v h now x y s
-direct_only IntegersEqual v h now x y s = by_direct IntegersEqual refl v h now x y s
-direct_only IntegersGreater v h now x y s = by_direct IntegersGreater refl v h now x y s
-direct_only IntegersGreaterEqual v h now x y s = by_direct IntegersGreaterEqual refl v h now x y s
-direct_only IntegersLess v h now x y s = by_direct IntegersLess refl v h now x y s
-direct_only IntegersLessEqual v h now x y s = by_direct IntegersLessEqual refl v h now x y s
-direct_only IntegersGreaterThreshold v h now x y s = by_direct IntegersGreaterThreshold refl v h now x y s
-direct_only IntegersGreaterEqualThreshold v h now x y s = by_direct IntegersGreaterEqualThreshold refl v h now x y s
-direct_only IntegersLessThreshold v h now x y s = by_direct IntegersLessThreshold refl v h now x y s
-direct_only IntegersLessEqualThreshold v h now x y s = by_direct IntegersLessEqualThreshold refl v h now x y s
-direct_only IntegersChange v h now x y s = by_direct IntegersChange refl v h now x y s
-direct_only IntegersOnCounter v h now x y s = by_direct IntegersOnCounter refl v h now x y s
-direct_only RealsAdd v h now x y s = by_direct RealsAdd refl v h now x y s
-direct_only RealsSubtract v h now x y s = by_direct RealsSubtract refl v h now x y s
-direct_only RealsMultiply v h now x y s = by_direct RealsMultiply refl v h now x y s
-direct_only RealsDivide v h now x y s = by_direct RealsDivide refl v h now x y s
-direct_only RealsMax v h now x y s = by_direct RealsMax refl v h now x y s
-direct_only RealsMin v h now x y s = by_direct RealsMin refl v h now x y s
-direct_only RealsAddParameter v h now x y s = by_direct RealsAddParameter refl v h now x y s
-direct_only RealsMultiplyByParameter v h now x y s = by_direct RealsMultiplyByParameter refl v h now x y s
-direct_only RealsAverage v h now x y s = by_direct RealsAverage refl v h now x y s
-direct_only RealsModulo v h now x y s = by_direct RealsModulo refl v h now x y s
-direct_only RealsMultiSum v h now x y s = by_direct RealsMultiSum refl v h now x y s
-direct_only RealsMultiMax v h now x y s = by_direct RealsMultiMax refl v h now x y s
-direct_only RealsMultiMin v h now x y s = by_direct RealsMultiMin refl v h now x y s
-direct_only RealsGreater v h now x y s = by_direct RealsGreater refl v h now x y s
-direct_only RealsLess v h now x y s = by_direct RealsLess refl v h now x y s
-direct_only RealsGreaterThreshold v h now x y s = by_direct RealsGreaterThreshold refl v h now x y s
-direct_only RealsLessThreshold v h now x y s = by_direct RealsLessThreshold refl v h now x y s
-direct_only RealsHysteresis v h now x y s = by_direct RealsHysteresis refl v h now x y s
-direct_only RealsLimiter v h now x y s = by_direct RealsLimiter refl v h now x y s
-direct_only RealsLine v h now x y s = by_direct RealsLine refl v h now x y s
-direct_only ConversionsBooleanToInteger v h now x y s = by_direct ConversionsBooleanToInteger refl v h now x y s
-direct_only ConversionsBooleanToReal v h now x y s = by_direct ConversionsBooleanToReal refl v h now x y s
-direct_only ConversionsIntegerToReal v h now x y s = by_direct ConversionsIntegerToReal refl v h now x y s
-direct_only ConversionsRealToInteger v h now x y s = by_direct ConversionsRealToInteger refl v h now x y s
-direct_only DiscreteSampler v h now x y s = by_direct DiscreteSampler refl v h now x y s
-direct_only DiscreteZeroOrderHold v h now x y s = by_direct DiscreteZeroOrderHold refl v h now x y s
-direct_only DiscreteUnitDelay v h now x y s = second_sample (real_at v 1) (samples (real_at v 0) h now) (word x 0) (word y 0) (sampled (real_at v 0) h)
-direct_only DiscreteTriggeredSampler v h now x y s = by_direct DiscreteTriggeredSampler refl v h now x y s
-direct_only DiscreteTriggeredMax v h now x y s = by_direct DiscreteTriggeredMax refl v h now x y s
-direct_only DiscreteTriggeredMovingMean v h now x y s = by_direct DiscreteTriggeredMovingMean refl v h now x y s
-direct_only RoutingBooleanScalarReplicator v h now x y s = by_direct RoutingBooleanScalarReplicator refl v h now x y s
-direct_only RoutingIntegerScalarReplicator v h now x y s = by_direct RoutingIntegerScalarReplicator refl v h now x y s
-direct_only RoutingRealScalarReplicator v h now x y s = by_direct RoutingRealScalarReplicator refl v h now x y s
+direct_only kind.LogicalAnd v h now x y s = by_direct kind.LogicalAnd refl v h now x y s
+direct_only kind.LogicalOr v h now x y s = by_direct kind.LogicalOr refl v h now x y s
+direct_only kind.LogicalNand v h now x y s = by_direct kind.LogicalNand refl v h now x y s
+direct_only kind.LogicalNor v h now x y s = by_direct kind.LogicalNor refl v h now x y s
+direct_only kind.LogicalXor v h now x y s = by_direct kind.LogicalXor refl v h now x y s
+direct_only kind.LogicalNot v h now x y s = by_direct kind.LogicalNot refl v h now x y s
+direct_only kind.LogicalMultiAnd v h now x y s = by_direct kind.LogicalMultiAnd refl v h now x y s
+direct_only kind.LogicalMultiOr v h now x y s = by_direct kind.LogicalMultiOr refl v h now x y s
+direct_only kind.LogicalEdge v h now x y s = by_direct kind.LogicalEdge refl v h now x y s
+direct_only kind.LogicalFallingEdge v h now x y s = by_direct kind.LogicalFallingEdge refl v h now x y s
+direct_only kind.LogicalChange v h now x y s = by_direct kind.LogicalChange refl v h now x y s
+direct_only kind.LogicalLatch v h now x y s = by_direct kind.LogicalLatch refl v h now x y s
+direct_only kind.LogicalToggle v h now x y s = by_direct kind.LogicalToggle refl v h now x y s
+direct_only kind.LogicalPre v h now x y s = refl
+direct_only kind.LogicalSwitch v h now x y s = by_direct kind.LogicalSwitch refl v h now x y s
+direct_only kind.IntegersSwitch v h now x y s = by_direct kind.IntegersSwitch refl v h now x y s
+direct_only kind.RealsSwitch v h now x y s = by_direct kind.RealsSwitch refl v h now x y s
+direct_only kind.LogicalTimer v h now x y s = by_direct kind.LogicalTimer refl v h now x y s
+direct_only kind.LogicalTimerAccumulating v h now x y s = by_direct kind.LogicalTimerAccumulating refl v h now x y s
+direct_only kind.LogicalTrueDelay v h now x y s = by_direct kind.LogicalTrueDelay refl v h now x y s
+direct_only kind.LogicalTrueFalseHold v h now x y s = by_direct kind.LogicalTrueFalseHold refl v h now x y s
+direct_only kind.LogicalSourcesConstant v h now x y s = by_direct kind.LogicalSourcesConstant refl v h now x y s
+direct_only kind.IntegersSourcesConstant v h now x y s = by_direct kind.IntegersSourcesConstant refl v h now x y s
+direct_only kind.RealsSourcesConstant v h now x y s = by_direct kind.RealsSourcesConstant refl v h now x y s
+direct_only kind.LogicalSourcesPulse v h now x y s = by_direct kind.LogicalSourcesPulse refl v h now x y s
+direct_only kind.IntegersAbs v h now x y s = by_direct kind.IntegersAbs refl v h now x y s
+direct_only kind.RealsAbs v h now x y s = by_direct kind.RealsAbs refl v h now x y s
+direct_only kind.IntegersAdd v h now x y s = by_direct kind.IntegersAdd refl v h now x y s
+direct_only kind.IntegersSubtract v h now x y s = by_direct kind.IntegersSubtract refl v h now x y s
+direct_only kind.IntegersMultiply v h now x y s = by_direct kind.IntegersMultiply refl v h now x y s
+direct_only kind.IntegersMax v h now x y s = by_direct kind.IntegersMax refl v h now x y s
+direct_only kind.IntegersMin v h now x y s = by_direct kind.IntegersMin refl v h now x y s
+direct_only kind.IntegersAddParameter v h now x y s = by_direct kind.IntegersAddParameter refl v h now x y s
+direct_only kind.IntegersMultiSum v h now x y s = by_direct kind.IntegersMultiSum refl v h now x y s
+direct_only kind.IntegersEqual v h now x y s = by_direct kind.IntegersEqual refl v h now x y s
+direct_only kind.IntegersGreater v h now x y s = by_direct kind.IntegersGreater refl v h now x y s
+direct_only kind.IntegersGreaterEqual v h now x y s = by_direct kind.IntegersGreaterEqual refl v h now x y s
+direct_only kind.IntegersLess v h now x y s = by_direct kind.IntegersLess refl v h now x y s
+direct_only kind.IntegersLessEqual v h now x y s = by_direct kind.IntegersLessEqual refl v h now x y s
+direct_only kind.IntegersGreaterThreshold v h now x y s = by_direct kind.IntegersGreaterThreshold refl v h now x y s
+direct_only kind.IntegersGreaterEqualThreshold v h now x y s = by_direct kind.IntegersGreaterEqualThreshold refl v h now x y s
+direct_only kind.IntegersLessThreshold v h now x y s = by_direct kind.IntegersLessThreshold refl v h now x y s
+direct_only kind.IntegersLessEqualThreshold v h now x y s = by_direct kind.IntegersLessEqualThreshold refl v h now x y s
+direct_only kind.IntegersChange v h now x y s = by_direct kind.IntegersChange refl v h now x y s
+direct_only kind.IntegersOnCounter v h now x y s = by_direct kind.IntegersOnCounter refl v h now x y s
+direct_only kind.RealsAdd v h now x y s = by_direct kind.RealsAdd refl v h now x y s
+direct_only kind.RealsSubtract v h now x y s = by_direct kind.RealsSubtract refl v h now x y s
+direct_only kind.RealsMultiply v h now x y s = by_direct kind.RealsMultiply refl v h now x y s
+direct_only kind.RealsDivide v h now x y s = by_direct kind.RealsDivide refl v h now x y s
+direct_only kind.RealsMax v h now x y s = by_direct kind.RealsMax refl v h now x y s
+direct_only kind.RealsMin v h now x y s = by_direct kind.RealsMin refl v h now x y s
+direct_only kind.RealsAddParameter v h now x y s = by_direct kind.RealsAddParameter refl v h now x y s
+direct_only kind.RealsMultiplyByParameter v h now x y s = by_direct kind.RealsMultiplyByParameter refl v h now x y s
+direct_only kind.RealsAverage v h now x y s = by_direct kind.RealsAverage refl v h now x y s
+direct_only kind.RealsModulo v h now x y s = by_direct kind.RealsModulo refl v h now x y s
+direct_only kind.RealsMultiSum v h now x y s = by_direct kind.RealsMultiSum refl v h now x y s
+direct_only kind.RealsMultiMax v h now x y s = by_direct kind.RealsMultiMax refl v h now x y s
+direct_only kind.RealsMultiMin v h now x y s = by_direct kind.RealsMultiMin refl v h now x y s
+direct_only kind.RealsGreater v h now x y s = by_direct kind.RealsGreater refl v h now x y s
+direct_only kind.RealsLess v h now x y s = by_direct kind.RealsLess refl v h now x y s
+direct_only kind.RealsGreaterThreshold v h now x y s = by_direct kind.RealsGreaterThreshold refl v h now x y s
+direct_only kind.RealsLessThreshold v h now x y s = by_direct kind.RealsLessThreshold refl v h now x y s
+direct_only kind.RealsHysteresis v h now x y s = by_direct kind.RealsHysteresis refl v h now x y s
+direct_only kind.RealsLimiter v h now x y s = by_direct kind.RealsLimiter refl v h now x y s
+direct_only kind.RealsLine v h now x y s = by_direct kind.RealsLine refl v h now x y s
+direct_only kind.ConversionsBooleanToInteger v h now x y s = by_direct kind.ConversionsBooleanToInteger refl v h now x y s
+direct_only kind.ConversionsBooleanToReal v h now x y s = by_direct kind.ConversionsBooleanToReal refl v h now x y s
+direct_only kind.ConversionsIntegerToReal v h now x y s = by_direct kind.ConversionsIntegerToReal refl v h now x y s
+direct_only kind.ConversionsRealToInteger v h now x y s = by_direct kind.ConversionsRealToInteger refl v h now x y s
+direct_only kind.DiscreteSampler v h now x y s = by_direct kind.DiscreteSampler refl v h now x y s
+direct_only kind.DiscreteZeroOrderHold v h now x y s = by_direct kind.DiscreteZeroOrderHold refl v h now x y s
+direct_only kind.DiscreteUnitDelay v h now x y s = second_sample (real_at v 1) (samples (real_at v 0) h now) (word x 0) (word y 0) (sampled (real_at v 0) h)
+direct_only kind.DiscreteTriggeredSampler v h now x y s = by_direct kind.DiscreteTriggeredSampler refl v h now x y s
+direct_only kind.DiscreteTriggeredMax v h now x y s = by_direct kind.DiscreteTriggeredMax refl v h now x y s
+direct_only kind.DiscreteTriggeredMovingMean v h now x y s = by_direct kind.DiscreteTriggeredMovingMean refl v h now x y s
+direct_only kind.RoutingBooleanScalarReplicator v h now x y s = by_direct kind.RoutingBooleanScalarReplicator refl v h now x y s
+direct_only kind.RoutingIntegerScalarReplicator v h now x y s = by_direct kind.RoutingIntegerScalarReplicator refl v h now x y s
+direct_only kind.RoutingRealScalarReplicator v h now x y s = by_direct kind.RoutingRealScalarReplicator refl v h now x y s

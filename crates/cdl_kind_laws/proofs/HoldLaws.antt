@@ -1,7 +1,7 @@
 -- A hold by what it gave before.
 use Rattle.std.proofs.Common.{◌≡◌, refl, ◌∙◌, ap, ℤ, List, [], ◌∷◌, Bool, true, false, cond, Option, Some, None}
 use Rattle.std.specs.Int.RustNames.{int_le}
-use Rattle.cdl_kinds.specs.History.{History, flag, is_on, word}
+use Rattle.cdl_values.specs.History.{History, flag, is_on, word}
 use Rattle.cdl_kinds.specs.Meaning.Gates.{just_one}
 use Rattle.cdl_kinds.specs.Meaning.Timers.{Held, elapsed, held, held_from, true_false_hold}
 use Rattle.cdl_kind_laws.specs.Holds.{Output, flag_of, hold_rule, last_change, outputs, run_start}

@@ -3,10 +3,10 @@ use Rattle.std.proofs.Common.{inl, inr, ℤ, List, arith}
 use Rattle.std.specs.Prelude.{pos, ◌*ℤ◌, ◌≤ℤ◌}
 use Rattle.std.proofs.lemmas.Int.{ints}
 use Rattle.cdl_kinds.specs.declared.kind.Kind.{Kind}
-use Rattle.cdl_kinds.specs.declared.kind.Kind.TheVariants.{LogicalAnd, LogicalOr, LogicalNand, LogicalNor, LogicalXor, LogicalNot, LogicalMultiAnd, LogicalMultiOr, LogicalEdge, LogicalFallingEdge, LogicalChange, LogicalLatch, LogicalToggle, LogicalPre, LogicalSwitch, IntegersSwitch, RealsSwitch, LogicalTimer, LogicalTimerAccumulating, LogicalTrueDelay, LogicalTrueFalseHold, LogicalSourcesConstant, IntegersSourcesConstant, RealsSourcesConstant, LogicalSourcesPulse, IntegersAbs, RealsAbs, IntegersAdd, IntegersSubtract, IntegersMultiply, IntegersMax, IntegersMin, IntegersAddParameter, IntegersMultiSum, IntegersEqual, IntegersGreater, IntegersGreaterEqual, IntegersLess, IntegersLessEqual, IntegersGreaterThreshold, IntegersGreaterEqualThreshold, IntegersLessThreshold, IntegersLessEqualThreshold, IntegersChange, IntegersOnCounter, RealsAdd, RealsSubtract, RealsMultiply, RealsDivide, RealsMax, RealsMin, RealsAddParameter, RealsMultiplyByParameter, RealsAverage, RealsModulo, RealsMultiSum, RealsMultiMax, RealsMultiMin, RealsGreater, RealsLess, RealsGreaterThreshold, RealsLessThreshold, RealsHysteresis, RealsLimiter, RealsLine, ConversionsBooleanToInteger, ConversionsBooleanToReal, ConversionsIntegerToReal, ConversionsRealToInteger, DiscreteSampler, DiscreteZeroOrderHold, DiscreteUnitDelay, DiscreteTriggeredSampler, DiscreteTriggeredMax, DiscreteTriggeredMovingMean, RoutingBooleanScalarReplicator, RoutingIntegerScalarReplicator, RoutingRealScalarReplicator}
-use Rattle.cdl_kinds.specs.declared.value.Array.{Array}
+use Rattle.cdl_kinds.specs.declared.kind.Kind.TheVariants as kind
+use Rattle.cdl_values.specs.declared.value.Array.{Array}
 use Rattle.cdl_kinds.specs.States.{IsAccumulatingState, IsDelayState, IsHoldState, IsIntervalUpTo, IsSamplerState, IsSound, IsTimerState, IsTimeUpTo, IsUnitDelayState}
-use Rattle.cdl_kinds.specs.Values.{real_at}
+use Rattle.cdl_values.specs.Values.{real_at}
 
 time_later : (last next w : ℤ) → last ≤ℤ next → IsTimeUpTo last w → IsTimeUpTo next w
 time_later last next w l s = record { low = s.low; high = omega (arith, ints, s.high) }
@@ -37,81 +37,81 @@ unit_delay_later : (period : ℤ) (state : List ℤ) (last next : ℤ) → last 
 unit_delay_later period state last next l s = record { size = s.size; interval = interval_later period last next _ l s.interval; older = s.older; newer = s.newer }
 
 pub sound_later : (k : Kind) (v : List Array) (state : List ℤ) (last next : ℤ) → last ≤ℤ next → IsSound k v state last → IsSound k v state next
-sound_later LogicalAnd v state last next l s = s
-sound_later LogicalOr v state last next l s = s
-sound_later LogicalNand v state last next l s = s
-sound_later LogicalNor v state last next l s = s
-sound_later LogicalXor v state last next l s = s
-sound_later LogicalNot v state last next l s = s
-sound_later LogicalMultiAnd v state last next l s = s
-sound_later LogicalMultiOr v state last next l s = s
-sound_later LogicalEdge v state last next l s = s
-sound_later LogicalFallingEdge v state last next l s = s
-sound_later LogicalChange v state last next l s = s
-sound_later LogicalLatch v state last next l s = s
-sound_later LogicalToggle v state last next l s = s
-sound_later LogicalPre v state last next l s = s
-sound_later LogicalSwitch v state last next l s = s
-sound_later IntegersSwitch v state last next l s = s
-sound_later RealsSwitch v state last next l s = s
-sound_later LogicalTimer v state last next l s = timer_later state last next l s
-sound_later LogicalTimerAccumulating v state last next l s = accumulating_later state last next l s
-sound_later LogicalTrueDelay v state last next l s = delay_later state last next l s
-sound_later LogicalTrueFalseHold v state last next l s = hold_later state last next l s
-sound_later LogicalSourcesConstant v state last next l s = s
-sound_later IntegersSourcesConstant v state last next l s = s
-sound_later RealsSourcesConstant v state last next l s = s
-sound_later LogicalSourcesPulse v state last next l s = s
-sound_later IntegersAbs v state last next l s = s
-sound_later RealsAbs v state last next l s = s
-sound_later IntegersAdd v state last next l s = s
-sound_later IntegersSubtract v state last next l s = s
-sound_later IntegersMultiply v state last next l s = s
-sound_later IntegersMax v state last next l s = s
-sound_later IntegersMin v state last next l s = s
-sound_later IntegersAddParameter v state last next l s = s
-sound_later IntegersMultiSum v state last next l s = s
-sound_later IntegersEqual v state last next l s = s
-sound_later IntegersGreater v state last next l s = s
-sound_later IntegersGreaterEqual v state last next l s = s
-sound_later IntegersLess v state last next l s = s
-sound_later IntegersLessEqual v state last next l s = s
-sound_later IntegersGreaterThreshold v state last next l s = s
-sound_later IntegersGreaterEqualThreshold v state last next l s = s
-sound_later IntegersLessThreshold v state last next l s = s
-sound_later IntegersLessEqualThreshold v state last next l s = s
-sound_later IntegersChange v state last next l s = s
-sound_later IntegersOnCounter v state last next l s = s
-sound_later RealsAdd v state last next l s = s
-sound_later RealsSubtract v state last next l s = s
-sound_later RealsMultiply v state last next l s = s
-sound_later RealsDivide v state last next l s = s
-sound_later RealsMax v state last next l s = s
-sound_later RealsMin v state last next l s = s
-sound_later RealsAddParameter v state last next l s = s
-sound_later RealsMultiplyByParameter v state last next l s = s
-sound_later RealsAverage v state last next l s = s
-sound_later RealsModulo v state last next l s = s
-sound_later RealsMultiSum v state last next l s = s
-sound_later RealsMultiMax v state last next l s = s
-sound_later RealsMultiMin v state last next l s = s
-sound_later RealsGreater v state last next l s = s
-sound_later RealsLess v state last next l s = s
-sound_later RealsGreaterThreshold v state last next l s = s
-sound_later RealsLessThreshold v state last next l s = s
-sound_later RealsHysteresis v state last next l s = s
-sound_later RealsLimiter v state last next l s = s
-sound_later RealsLine v state last next l s = s
-sound_later ConversionsBooleanToInteger v state last next l s = s
-sound_later ConversionsBooleanToReal v state last next l s = s
-sound_later ConversionsIntegerToReal v state last next l s = s
-sound_later ConversionsRealToInteger v state last next l s = s
-sound_later DiscreteSampler v state last next l s = sampler_later (real_at v 0) state last next l s
-sound_later DiscreteZeroOrderHold v state last next l s = sampler_later (real_at v 0) state last next l s
-sound_later DiscreteUnitDelay v state last next l s = unit_delay_later (real_at v 0) state last next l s
-sound_later DiscreteTriggeredSampler v state last next l s = s
-sound_later DiscreteTriggeredMax v state last next l s = s
-sound_later DiscreteTriggeredMovingMean v state last next l s = s
-sound_later RoutingBooleanScalarReplicator v state last next l s = s
-sound_later RoutingIntegerScalarReplicator v state last next l s = s
-sound_later RoutingRealScalarReplicator v state last next l s = s
+sound_later kind.LogicalAnd v state last next l s = s
+sound_later kind.LogicalOr v state last next l s = s
+sound_later kind.LogicalNand v state last next l s = s
+sound_later kind.LogicalNor v state last next l s = s
+sound_later kind.LogicalXor v state last next l s = s
+sound_later kind.LogicalNot v state last next l s = s
+sound_later kind.LogicalMultiAnd v state last next l s = s
+sound_later kind.LogicalMultiOr v state last next l s = s
+sound_later kind.LogicalEdge v state last next l s = s
+sound_later kind.LogicalFallingEdge v state last next l s = s
+sound_later kind.LogicalChange v state last next l s = s
+sound_later kind.LogicalLatch v state last next l s = s
+sound_later kind.LogicalToggle v state last next l s = s
+sound_later kind.LogicalPre v state last next l s = s
+sound_later kind.LogicalSwitch v state last next l s = s
+sound_later kind.IntegersSwitch v state last next l s = s
+sound_later kind.RealsSwitch v state last next l s = s
+sound_later kind.LogicalTimer v state last next l s = timer_later state last next l s
+sound_later kind.LogicalTimerAccumulating v state last next l s = accumulating_later state last next l s
+sound_later kind.LogicalTrueDelay v state last next l s = delay_later state last next l s
+sound_later kind.LogicalTrueFalseHold v state last next l s = hold_later state last next l s
+sound_later kind.LogicalSourcesConstant v state last next l s = s
+sound_later kind.IntegersSourcesConstant v state last next l s = s
+sound_later kind.RealsSourcesConstant v state last next l s = s
+sound_later kind.LogicalSourcesPulse v state last next l s = s
+sound_later kind.IntegersAbs v state last next l s = s
+sound_later kind.RealsAbs v state last next l s = s
+sound_later kind.IntegersAdd v state last next l s = s
+sound_later kind.IntegersSubtract v state last next l s = s
+sound_later kind.IntegersMultiply v state last next l s = s
+sound_later kind.IntegersMax v state last next l s = s
+sound_later kind.IntegersMin v state last next l s = s
+sound_later kind.IntegersAddParameter v state last next l s = s
+sound_later kind.IntegersMultiSum v state last next l s = s
+sound_later kind.IntegersEqual v state last next l s = s
+sound_later kind.IntegersGreater v state last next l s = s
+sound_later kind.IntegersGreaterEqual v state last next l s = s
+sound_later kind.IntegersLess v state last next l s = s
+sound_later kind.IntegersLessEqual v state last next l s = s
+sound_later kind.IntegersGreaterThreshold v state last next l s = s
+sound_later kind.IntegersGreaterEqualThreshold v state last next l s = s
+sound_later kind.IntegersLessThreshold v state last next l s = s
+sound_later kind.IntegersLessEqualThreshold v state last next l s = s
+sound_later kind.IntegersChange v state last next l s = s
+sound_later kind.IntegersOnCounter v state last next l s = s
+sound_later kind.RealsAdd v state last next l s = s
+sound_later kind.RealsSubtract v state last next l s = s
+sound_later kind.RealsMultiply v state last next l s = s
+sound_later kind.RealsDivide v state last next l s = s
+sound_later kind.RealsMax v state last next l s = s
+sound_later kind.RealsMin v state last next l s = s
+sound_later kind.RealsAddParameter v state last next l s = s
+sound_later kind.RealsMultiplyByParameter v state last next l s = s
+sound_later kind.RealsAverage v state last next l s = s
+sound_later kind.RealsModulo v state last next l s = s
+sound_later kind.RealsMultiSum v state last next l s = s
+sound_later kind.RealsMultiMax v state last next l s = s
+sound_later kind.RealsMultiMin v state last next l s = s
+sound_later kind.RealsGreater v state last next l s = s
+sound_later kind.RealsLess v state last next l s = s
+sound_later kind.RealsGreaterThreshold v state last next l s = s
+sound_later kind.RealsLessThreshold v state last next l s = s
+sound_later kind.RealsHysteresis v state last next l s = s
+sound_later kind.RealsLimiter v state last next l s = s
+sound_later kind.RealsLine v state last next l s = s
+sound_later kind.ConversionsBooleanToInteger v state last next l s = s
+sound_later kind.ConversionsBooleanToReal v state last next l s = s
+sound_later kind.ConversionsIntegerToReal v state last next l s = s
+sound_later kind.ConversionsRealToInteger v state last next l s = s
+sound_later kind.DiscreteSampler v state last next l s = sampler_later (real_at v 0) state last next l s
+sound_later kind.DiscreteZeroOrderHold v state last next l s = sampler_later (real_at v 0) state last next l s
+sound_later kind.DiscreteUnitDelay v state last next l s = unit_delay_later (real_at v 0) state last next l s
+sound_later kind.DiscreteTriggeredSampler v state last next l s = s
+sound_later kind.DiscreteTriggeredMax v state last next l s = s
+sound_later kind.DiscreteTriggeredMovingMean v state last next l s = s
+sound_later kind.RoutingBooleanScalarReplicator v state last next l s = s
+sound_later kind.RoutingIntegerScalarReplicator v state last next l s = s
+sound_later kind.RoutingRealScalarReplicator v state last next l s = s

@@ -6,14 +6,15 @@ use Rattle.std.proofs.lemmas.Bool.Decides.{nat_tests}
 use Rattle.cdl_decimal.specs.Near.{InRange}
 use Rattle.cdl_kinds.proofs.Integers.{at_small, fits_small}
 use Rattle.cdl_kinds.specs.declared.kind.Kind.{Kind}
-use Rattle.cdl_kinds.specs.declared.value.Array.{Array}
-use Rattle.cdl_kinds.specs.declared.value.Value.{Value}
-use Rattle.cdl_kinds.specs.declared.value.Value.TheVariants.{Boolean, Integer, Real, Str, Enumeration}
-use Rattle.cdl_kinds.specs.declared.value.ValueType.{ValueType}
-use Rattle.cdl_kinds.specs.declared.value.ValueType.TheVariants.{Boolean as BooleanType, Integer as IntegerType, Real as RealType, Str as StrType, Enumeration as EnumerationType}
+use Rattle.cdl_values.specs.declared.value.Array.{Array}
+use Rattle.cdl_values.specs.declared.value.Value.{Value}
+use Rattle.cdl_values.specs.declared.value.Value.TheVariants.{Boolean, Integer, Real, Str, Enumeration}
+use Rattle.cdl_values.specs.declared.value.ValueType.{ValueType}
+use Rattle.cdl_values.specs.declared.value.ValueType.TheVariants.{Boolean as BooleanType, Integer as IntegerType, Real as RealType, Str as StrType, Enumeration as EnumerationType}
 use Rattle.cdl_kinds.specs.Conditions.{FitRows, Keeps, is_positive, is_window}
-use Rattle.cdl_kinds.specs.Parameters.{ParameterRow, parameters}
-use Rattle.cdl_kinds.specs.Values.{IsOf, first, integer_at, real_at, real_of}
+use Rattle.cdl_kinds.specs.Table.{ParameterRow}
+use Rattle.cdl_kinds.specs.Parameters.{parameters}
+use Rattle.cdl_values.specs.Values.{IsOf, first, integer_at, real_at, real_of}
 
 value_in_range : (t : ValueType) (x : Value) → IsOf t x → InRange (real_of x)
 value_in_range t (Boolean b) h = omega arith
@@ -34,7 +35,7 @@ rows_in_range : (nin : ℤ) (rs : List ParameterRow) (v : List Array) (i : ℕ) 
 rows_in_range nin [] [] i h = omega arith
 rows_in_range nin [] (a ∷ v) i h = absurd h
 rows_in_range nin (r ∷ rs) [] i h = absurd h
-rows_in_range nin (r ∷ rs) (a ∷ v) zero h = first_in_range a.kind a.items h.0.array.each
+rows_in_range nin (r ∷ rs) (a ∷ v) zero h = first_in_range a.value_type a.items h.0.array.each
 rows_in_range nin (r ∷ rs) (a ∷ v) (suc i) h = rows_in_range nin rs v i h.1
 
 pub real_in_range : (k : Kind) (v : List Array) (i : ℕ) → Keeps k v → InRange (real_at v i)

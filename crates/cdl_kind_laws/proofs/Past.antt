@@ -7,15 +7,15 @@ use Rattle.std.proofs.lemmas.Int.{ints}
 use Rattle.std.proofs.lemmas.List.{length-take}
 use Rattle.cdl_decimal.proofs.NearLaws.{euclid}
 use Rattle.cdl_decimal.specs.Near.{InRange}
-use Rattle.cdl_kinds.specs.declared.value.ValueType.TheVariants.{Real}
-use Rattle.cdl_kinds.specs.History.{History, Inputs, IsHistory, IsLater, IsTime, Meaning, Tick, is_on, last_time, rises, word}
+use Rattle.cdl_values.specs.declared.value.ValueType.TheVariants.{Real}
+use Rattle.cdl_values.specs.History.{History, Signature, IsHistory, IsLater, IsTime, Meaning, Tick, is_on, last_time, rises, word}
 use Rattle.cdl_kinds.specs.Meaning.Discrete.{caught, first_or, interval, picked, picks, sampled, samples, second_or}
-use Rattle.cdl_kinds.specs.Meaning.Reals.{greatest}
+use Rattle.cdl_values.specs.Extremes.{greatest}
 use Rattle.cdl_kinds.specs.Meaning.Timers.{Held, accumulated, began, elapsed, held, held_from, or_now, run_length}
 use Rattle.cdl_kinds.specs.States.{IsIntervalUpTo, IsTimeUpTo, last_interval, time_word}
 use Rattle.cdl_kind_laws.proofs.ValueWords.{EachReal, before_value}
 
-pub past : {p : Inputs} {m : Meaning} (t : Tick) (h : History) → IsHistory p m (t ∷ h) → IsHistory p m h
+pub past : {p : Signature} {m : Meaning} (t : Tick) (h : History) → IsHistory p m (t ∷ h) → IsHistory p m h
 past t h s = record { ticks = s.ticks.4 }
 
 pub last_before : (now : ℤ) (h : History) → pos 0 ≤ℤ now → IsLater now h → last_time h <ℤ now
@@ -27,7 +27,7 @@ run_up_to true None last now s l n = record { low = omega (arith, ints); high = 
 run_up_to true (Some b) last now s l n = record { low = s.low; high = omega (arith, ints, s.high) }
 run_up_to false o last now s l n = record { low = omega (arith, ints); high = omega (arith, ints) }
 
-pub began_up_to : {p : Inputs} {m : Meaning} (h : History) → IsHistory p m h → IsTimeUpTo (last_time h) (time_word (began h))
+pub began_up_to : {p : Signature} {m : Meaning} (h : History) → IsHistory p m h → IsTimeUpTo (last_time h) (time_word (began h))
 began_up_to [] s = record { low = omega (arith, ints); high = omega (arith, ints) }
 began_up_to (t ∷ h) s = run_up_to (is_on (word t.ins 0)) (began h) (last_time h) t.time (began_up_to h (past t h s)) (last_before t.time h s.ticks.0.0 s.ticks.1) s.ticks.0.0
 
@@ -41,7 +41,7 @@ run_step true None last now s l n = (n, omega (arith, ints))
 run_step true (Some b) last now s l n = (s.0, omega (arith, ints, s.1))
 run_step false o last now s l n = tt
 
-pub runs_up_to : {p : Inputs} {m : Meaning} (h : History) → IsHistory p m h → IsRunUpTo (last_time h) (began h)
+pub runs_up_to : {p : Signature} {m : Meaning} (h : History) → IsHistory p m h → IsRunUpTo (last_time h) (began h)
 runs_up_to [] s = tt
 runs_up_to (t ∷ h) s = run_step (is_on (word t.ins 0)) (began h) (last_time h) t.time (runs_up_to h (past t h s)) (last_before t.time h s.ticks.0.0 s.ticks.1) s.ticks.0.0
 
@@ -58,7 +58,7 @@ add_step true u y last now s l n = (omega (arith, ints), omega (arith, ints))
 add_step false true y last now s l n = (omega (arith, ints, s.0), omega (arith, ints, s.0, s.1))
 add_step false false y last now s l n = (omega (arith, ints, s.0), omega (arith, ints, s.1))
 
-pub accumulated_added : {p : Inputs} {m : Meaning} (t : Tick) (h : History) → IsHistory p m (t ∷ h) → IsAdded t.time (accumulated (t ∷ h))
+pub accumulated_added : {p : Signature} {m : Meaning} (t : Tick) (h : History) → IsHistory p m (t ∷ h) → IsAdded t.time (accumulated (t ∷ h))
 accumulated_added t [] s = (omega (arith, ints), omega (arith, ints, s.ticks.0.0))
 accumulated_added t (a ∷ h) s = add_step (rises (a ∷ h) t.ins 1) (is_on (word a.ins 0)) (accumulated (a ∷ h)) a.time t.time (accumulated_added a h (past t (a ∷ h) s)) s.ticks.1 s.ticks.0.0
 
@@ -78,7 +78,7 @@ held_step a b (Some y) last now u s l n =
     pick_held now (int_le (cond y.on a b) (elapsed y.changed now)) _ y
     (pick_held now u _ _ (pick_held now y.on y (record { on = true; changed = now }) f g) (pick_held now y.on (record { on = false; changed = now }) y g f)) f
 
-pub held_up_to : {p : Inputs} {m : Meaning} (a b : ℤ) (h : History) → IsHistory p m h → IsHeldUpTo (last_time h) (held a b h)
+pub held_up_to : {p : Signature} {m : Meaning} (a b : ℤ) (h : History) → IsHistory p m h → IsHeldUpTo (last_time h) (held a b h)
 held_up_to a b [] s = tt
 held_up_to a b (t ∷ h) s = held_step a b (held a b h) (last_time h) t.time (is_on (word t.ins 0)) (held_up_to a b h (past t h s)) (last_before t.time h s.ticks.0.0 s.ticks.1) s.ticks.0.0
 
@@ -90,7 +90,7 @@ interval_known : (period time : ℤ) → pos 0 <ℤ period → pos 0 ≤ℤ time
 interval_known (pos d) time p h = interval_at d time (omega (arith, ints)) h
 interval_known (negsuc d) time p h = absurd (omega (arith, ints))
 
-pub interval_up_to : {p : Inputs} {m : Meaning} (period : ℤ) (h : History) → pos 0 <ℤ period → IsHistory p m h → IsIntervalUpTo period (last_time h) (last_interval period h)
+pub interval_up_to : {p : Signature} {m : Meaning} (period : ℤ) (h : History) → pos 0 <ℤ period → IsHistory p m h → IsIntervalUpTo period (last_time h) (last_interval period h)
 interval_up_to period [] l s = inl refl
 interval_up_to period (t ∷ h) l s = inr (interval_known period t.time l s.ticks.0.0)
 
@@ -110,18 +110,18 @@ pub second_real : (d : ℤ) (us : List ℤ) → InRange d → EachReal us → In
 second_real d [] f s = f
 second_real d (u ∷ us) f s = first_real d us f s.1
 
-latest_real : {p : Inputs} {m : Meaning} (t : Tick) (h : History) → 0 < p.count → p.sort 0 ≡ Real → IsHistory p m (t ∷ h) → InRange (word t.ins 0)
+latest_real : {p : Signature} {m : Meaning} (t : Tick) (h : History) → 0 < p.count → p.value_type 0 ≡ Real → IsHistory p m (t ∷ h) → InRange (word t.ins 0)
 latest_real t h l e s = before_value Real (pos 0) 0 (t ∷ h) l e (omega arith) s
 
-pub sampled_reals : {p : Inputs} {m : Meaning} (period : ℤ) (h : History) → 0 < p.count → p.sort 0 ≡ Real → IsHistory p m h → EachReal (sampled period h)
+pub sampled_reals : {p : Signature} {m : Meaning} (period : ℤ) (h : History) → 0 < p.count → p.value_type 0 ≡ Real → IsHistory p m h → EachReal (sampled period h)
 sampled_reals period [] l e s = tt
 sampled_reals period (t ∷ h) l e s = keep_real (samples period h t.time) (word t.ins 0) (sampled period h) (latest_real t h l e s) (sampled_reals period h l e (past t h s))
 
-pub picked_reals : {p : Inputs} {m : Meaning} (h : History) → 0 < p.count → p.sort 0 ≡ Real → IsHistory p m h → EachReal (picked h)
+pub picked_reals : {p : Signature} {m : Meaning} (h : History) → 0 < p.count → p.value_type 0 ≡ Real → IsHistory p m h → EachReal (picked h)
 picked_reals [] l e s = tt
 picked_reals (t ∷ h) l e s = keep_real (picks h t.ins) (word t.ins 0) (picked h) (latest_real t h l e s) (picked_reals h l e (past t h s))
 
-pub caught_real : {p : Inputs} {m : Meaning} (start : ℤ) (h : History) → InRange start → 0 < p.count → p.sort 0 ≡ Real → IsHistory p m h → InRange (caught start h)
+pub caught_real : {p : Signature} {m : Meaning} (start : ℤ) (h : History) → InRange start → 0 < p.count → p.value_type 0 ≡ Real → IsHistory p m h → InRange (caught start h)
 caught_real start [] f l e s = f
 caught_real start (t ∷ h) f l e s = choose_real (rises h t.ins 1) (word t.ins 0) (caught start h) (latest_real t h l e s) (caught_real start h f l e (past t h s))
 

@@ -7,7 +7,7 @@ use Rattle.std.proofs.lemmas.Int.{ints}
 use Rattle.std.proofs.lemmas.Bool.Decides.{nat_tests}
 use Rattle.std.proofs.lemmas.List.Sums.{sum_by-cons}
 use Rattle.cdl_decimal.specs.Counts.{total}
-use Rattle.cdl_kinds.specs.History.{History, Tick, bit, is_on, rises, starts, word}
+use Rattle.cdl_values.specs.History.{History, Tick, bit, is_on, rises, starts, word}
 use Rattle.cdl_kinds.specs.Meaning.Edges.{latched, toggled}
 use Rattle.cdl_kinds.specs.Meaning.Integers.{counted}
 use Rattle.cdl_kinds.specs.Meaning.Reals.{above, above_threshold, below, below_threshold, between, remembered}

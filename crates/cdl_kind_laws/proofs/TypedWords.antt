@@ -7,16 +7,16 @@ use Rattle.std.proofs.lemmas.Bool.Decides.{nat_tests}
 use Rattle.std.proofs.lemmas.List.{get_or-replicate, length-replicate}
 use Rattle.cdl_decimal.specs.Counts.{dot, line_upper, real_add, real_div, real_line, real_mean, real_modulo, real_mul, real_sub, real_weighted_sum, total}
 use Rattle.cdl_decimal.specs.Near.{InRange, in_integer_range, in_range, modulo_of, near, near_signed}
-use Rattle.cdl_kinds.specs.declared.value.ValueType.{ValueType}
-use Rattle.cdl_kinds.specs.declared.value.ValueType.TheVariants.{Boolean, Integer, Real}
-use Rattle.cdl_kinds.specs.History.{AreValues, Inputs, IsTime, IsValue, bit, flag, integer, one, typed, word}
-use Rattle.cdl_kinds.specs.Meaning.Reals.{least}
+use Rattle.cdl_values.specs.declared.value.ValueType.{ValueType}
+use Rattle.cdl_values.specs.declared.value.ValueType.TheVariants.{Boolean, Integer, Real}
+use Rattle.cdl_values.specs.History.{AreValues, Signature, IsTime, IsValue, bit, flag, integer, one, typed, word}
+use Rattle.cdl_values.specs.Extremes.{least}
 use Rattle.cdl_kind_laws.proofs.Past.{IsAdded}
 use Rattle.cdl_kind_laws.proofs.ValueWords.{EachReal, bit_value, one_word, three_values, two_values}
 
 -- so many of one type
-abbrev pub alike : ValueType → ℕ → Inputs
-alike t n = record { count = n; sort = λ _. t; direct = λ _. true }
+abbrev pub alike : ValueType → ℕ → Signature
+alike t n = record { count = n; value_type = λ _. t; direct = λ _. true }
 
 pub word_typed : (t : ValueType) (w : ℤ) (y : List ℤ) → IsValue t w → Some (w ∷ []) ≡ Some y → AreValues (alike t 1) y
 word_typed t w y f e = let g : w ∷ [] ≡ y = cc in subst (λ (z : List ℤ). AreValues (alike t 1) z) g (record { size = refl; each = one_word t w f })

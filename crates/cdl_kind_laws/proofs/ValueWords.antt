@@ -3,9 +3,9 @@ use Rattle.std.proofs.Common.{ℕ, zero, suc, ◌<◌, ◌≡◌, inl, inr, refl
 use Rattle.std.specs.Prelude.{IsSome, unsigned_abs, ◌≤◌}
 use Rattle.std.proofs.lemmas.Bool.Decides.{nat_tests}
 use Rattle.cdl_decimal.specs.Near.{InRange}
-use Rattle.cdl_kinds.specs.declared.value.ValueType.{ValueType}
-use Rattle.cdl_kinds.specs.declared.value.ValueType.TheVariants.{Boolean, Integer}
-use Rattle.cdl_kinds.specs.History.{AreValues, History, Inputs, IsHistory, IsValue, Meaning, before, bit, booleans, integer, integers, reals, sort_of, typed, word}
+use Rattle.cdl_values.specs.declared.value.ValueType.{ValueType}
+use Rattle.cdl_values.specs.declared.value.ValueType.TheVariants.{Boolean, Integer}
+use Rattle.cdl_values.specs.History.{AreValues, History, Signature, IsHistory, IsValue, Meaning, before, bit, booleans, integer, integers, reals, nth_type, typed, word}
 use Rattle.cdl_kinds.specs.States.{padded}
 use Rattle.cdl_kind_laws.proofs.Widths.{length-padded}
 
@@ -23,7 +23,7 @@ one_boolean a f = record { size = refl; each = one_word Boolean a f }
 pub one_integer : (a : ℤ) → IsValue Integer a → AreValues (integers 1) (a ∷ [])
 one_integer a f = record { size = refl; each = one_word Integer a f }
 
-two_words : (r s : ValueType) (a b : ℤ) → IsValue r a → IsValue s b → (i : ℕ) → i < 2 → IsValue (sort_of (r ∷ s ∷ []) i) (word (a ∷ b ∷ []) i)
+two_words : (r s : ValueType) (a b : ℤ) → IsValue r a → IsValue s b → (i : ℕ) → i < 2 → IsValue (nth_type (r ∷ s ∷ []) i) (word (a ∷ b ∷ []) i)
 two_words r s a b f g zero l = f
 two_words r s a b f g (suc zero) l = g
 two_words r s a b f g (suc (suc i)) l = absurd (omega arith)
@@ -39,7 +39,7 @@ two_booleans a b f g = record { size = refl; each = two_alike Boolean a b f g }
 pub two_values : (r s : ValueType) (a b : ℤ) → IsValue r a → IsValue s b → AreValues (typed (r ∷ s ∷ [])) (a ∷ b ∷ [])
 two_values r s a b f g = record { size = refl; each = two_words r s a b f g }
 
-three_words : (r s t : ValueType) (a b c : ℤ) → IsValue r a → IsValue s b → IsValue t c → (i : ℕ) → i < 3 → IsValue (sort_of (r ∷ s ∷ t ∷ []) i) (word (a ∷ b ∷ c ∷ []) i)
+three_words : (r s t : ValueType) (a b c : ℤ) → IsValue r a → IsValue s b → IsValue t c → (i : ℕ) → i < 3 → IsValue (nth_type (r ∷ s ∷ t ∷ []) i) (word (a ∷ b ∷ c ∷ []) i)
 three_words r s t a b c f g k zero l = f
 three_words r s t a b c f g k (suc zero) l = g
 three_words r s t a b c f g k (suc (suc zero)) l = k
@@ -67,6 +67,6 @@ pub integer_fits : (z : ℤ) → IsSome (integer z) → unsigned_abs z ≤ 21474
 integer_fits z h = grind (arith, nat_tests)
 
 -- the word of an input at the latest tick is a value of its type, as the word before any is
-pub before_value : {p : Inputs} {m : Meaning} (t : ValueType) (w : ℤ) (i : ℕ) (h : History) → i < p.count → p.sort i ≡ t → IsValue t w → IsHistory p m h → IsValue t (before w i h)
+pub before_value : {p : Signature} {m : Meaning} (t : ValueType) (w : ℤ) (i : ℕ) (h : History) → i < p.count → p.value_type i ≡ t → IsValue t w → IsHistory p m h → IsValue t (before w i h)
 before_value t w i [] l e f s = f
 before_value t w i (a ∷ h) l e f s = subst (λ (r : ValueType). IsValue r (word a.ins i)) e (s.ticks.2.each i l)

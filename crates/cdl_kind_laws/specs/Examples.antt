@@ -1,6 +1,6 @@
 -- Short histories, computed: what blocks give at each tick, from the first on.
 use Rattle.std.specs.Prelude.{ℕ, ℤ, pos, negsuc, ◌≡◌, true, false, List, [], ◌∷◌, Option, Some, None}
-use Rattle.cdl_kinds.specs.History.{History, Meaning, Tick, tick}
+use Rattle.cdl_values.specs.History.{History, Meaning, Tick, tick}
 use Rattle.cdl_kinds.specs.Meaning.Conversions.{to_nearest_integer}
 use Rattle.cdl_kinds.specs.Meaning.Discrete.{sampler, triggered_max, triggered_moving_mean, triggered_sampler, unit_delay}
 use Rattle.cdl_kinds.specs.Meaning.Edges.{edge, is_change, is_edge, is_falling, latch, pre, toggle}
@@ -19,8 +19,8 @@ off = Some (pos 0 ∷ [])
 abbrev pub on : Option (List ℤ)
 on = Some (pos 1 ∷ [])
 
-abbrev pub gives : ℕ → Option (List ℤ)
-gives n = Some (pos n ∷ [])
+abbrev pub just : ℕ → Option (List ℤ)
+just n = Some (pos n ∷ [])
 
 abbrev pub two : ℕ → ℕ → Option (List ℤ)
 two a b = Some (pos a ∷ pos b ∷ [])
@@ -60,22 +60,22 @@ TimesRuns = (answers (timer (pos 1000000)) [] (at 0 1 ∷ at 1000 1 ∷ at 1500 
 
 -- sampled every 2 s, and given one sample later
 abbrev pub DelaysByOneSample : Type 0
-DelaysByOneSample = (answers (unit_delay (pos 2000000) (pos 7)) [] (at 0 1 ∷ at 1000 2 ∷ at 2000 3 ∷ at 3000 4 ∷ at 4500 5 ∷ []) ≡ gives 7 ∷ gives 7 ∷ gives 1 ∷ gives 1 ∷ gives 3 ∷ [])
+DelaysByOneSample = (answers (unit_delay (pos 2000000) (pos 7)) [] (at 0 1 ∷ at 1000 2 ∷ at 2000 3 ∷ at 3000 4 ∷ at 4500 5 ∷ []) ≡ just 7 ∷ just 7 ∷ just 1 ∷ just 1 ∷ just 3 ∷ [])
 
 -- sampled every 2 s; a tick late in its interval is a sample tick too
 abbrev pub SamplesAtOnce : Type 0
-SamplesAtOnce = (answers (sampler (pos 2000000)) [] (at 500 1 ∷ at 1000 2 ∷ at 2500 3 ∷ at 3000 4 ∷ at 4500 5 ∷ []) ≡ gives 1 ∷ gives 1 ∷ gives 3 ∷ gives 3 ∷ gives 5 ∷ [])
+SamplesAtOnce = (answers (sampler (pos 2000000)) [] (at 500 1 ∷ at 1000 2 ∷ at 2500 3 ∷ at 3000 4 ∷ at 4500 5 ∷ []) ≡ just 1 ∷ just 1 ∷ just 3 ∷ just 3 ∷ just 5 ∷ [])
 
 -- the mean of the last two picks; u is picked at the first tick and where trigger rises
 abbrev pub MeansOfTwo : Type 0
-MeansOfTwo = (answers (triggered_moving_mean 2) [] (with 0 4 1 ∷ with 1 7 0 ∷ with 2 6 1 ∷ with 3 9 1 ∷ with 4 1 0 ∷ with 5 1 1 ∷ []) ≡ gives 4 ∷ gives 4 ∷ gives 5 ∷ gives 5 ∷ gives 5 ∷ gives 4 ∷ [])
+MeansOfTwo = (answers (triggered_moving_mean 2) [] (with 0 4 1 ∷ with 1 7 0 ∷ with 2 6 1 ∷ with 3 9 1 ∷ with 4 1 0 ∷ with 5 1 1 ∷ []) ≡ just 4 ∷ just 4 ∷ just 5 ∷ just 5 ∷ just 5 ∷ just 4 ∷ [])
 
 -- a trigger that is true at the first tick does not rise, and yet the first tick is a pick
 abbrev pub Catches : Type 0
-Catches = (answers (triggered_sampler (pos 9)) [] (with 0 5 1 ∷ with 1 7 0 ∷ with 2 6 1 ∷ []) ≡ gives 9 ∷ gives 9 ∷ gives 6 ∷ [])
+Catches = (answers (triggered_sampler (pos 9)) [] (with 0 5 1 ∷ with 1 7 0 ∷ with 2 6 1 ∷ []) ≡ just 9 ∷ just 9 ∷ just 6 ∷ [])
 
 abbrev pub GreatestPick : Type 0
-GreatestPick = (answers triggered_max [] (with 0 5 1 ∷ with 1 7 0 ∷ with 2 6 1 ∷ []) ≡ gives 5 ∷ gives 5 ∷ gives 6 ∷ [])
+GreatestPick = (answers triggered_max [] (with 0 5 1 ∷ with 1 7 0 ∷ with 2 6 1 ∷ []) ≡ just 5 ∷ just 5 ∷ just 6 ∷ [])
 
 -- a period of 2 s, half of it true, shifted by 1.5 s: the part before the shift is that of a whole period earlier
 abbrev pub Pulses : Type 0
@@ -83,11 +83,11 @@ Pulses = (answers (pulse (pos 500000) (pos 2000000) (pos 1500000)) [] (tick (pos
 
 -- the rising edges of trigger, not counted at the first tick nor where reset rises
 abbrev pub Counts : Type 0
-Counts = (answers (on_counter (pos 0)) [] (with 0 1 0 ∷ with 1 0 0 ∷ with 2 1 0 ∷ with 3 1 0 ∷ with 4 0 0 ∷ with 5 1 1 ∷ []) ≡ gives 0 ∷ gives 0 ∷ gives 1 ∷ gives 1 ∷ gives 1 ∷ gives 0 ∷ [])
+Counts = (answers (on_counter (pos 0)) [] (with 0 1 0 ∷ with 1 0 0 ∷ with 2 1 0 ∷ with 3 1 0 ∷ with 4 0 0 ∷ with 5 1 1 ∷ []) ≡ just 0 ∷ just 0 ∷ just 1 ∷ just 1 ∷ just 1 ∷ just 0 ∷ [])
 
 -- no count above the greatest Integer
 abbrev pub CountsNoFurther : Type 0
-CountsNoFurther = (answers (on_counter (pos 2147483647)) [] (with 0 0 0 ∷ with 1 1 0 ∷ []) ≡ gives 2147483647 ∷ None ∷ [])
+CountsNoFurther = (answers (on_counter (pos 2147483647)) [] (with 0 0 0 ∷ with 1 1 0 ∷ []) ≡ just 2147483647 ∷ None ∷ [])
 
 abbrev pub Latches : Type 0
 Latches = (answers latch [] (with 0 1 0 ∷ with 1 0 1 ∷ with 2 1 1 ∷ []) ≡ on ∷ off ∷ off ∷ [])
@@ -97,7 +97,7 @@ Toggles = (answers toggle [] (with 0 1 0 ∷ with 1 1 0 ∷ with 2 0 0 ∷ with 
 
 -- a half goes away from zero, and past the range there is no value
 abbrev pub RoundsHalvesAway : Type 0
-RoundsHalvesAway = (answers to_nearest_integer [] (at 0 500000 ∷ tick (pos 1) (negsuc 499999 ∷ []) ∷ at 2 1499999 ∷ at 3 2147483647500000 ∷ []) ≡ gives 1 ∷ Some (negsuc 0 ∷ []) ∷ gives 1 ∷ None ∷ [])
+RoundsHalvesAway = (answers to_nearest_integer [] (at 0 500000 ∷ tick (pos 1) (negsuc 499999 ∷ []) ∷ at 2 1499999 ∷ at 3 2147483647500000 ∷ []) ≡ just 1 ∷ Some (negsuc 0 ∷ []) ∷ just 1 ∷ None ∷ [])
 
 -- an edge: true at the tick at which u becomes true, at the first one by the start
 abbrev pub RisingEdges : Type 0

@@ -1,7 +1,7 @@
 -- A hold, said by what it gave before.
 use Rattle.std.specs.Prelude.{ℤ, pos, Bool, false, cond, List, [], ◌∷◌, Option, Some, None}
 use Rattle.std.specs.Int.RustNames.{int_le}
-use Rattle.cdl_kinds.specs.History.{History, is_on, word}
+use Rattle.cdl_values.specs.History.{History, is_on, word}
 use Rattle.cdl_kinds.specs.Meaning.Gates.{just_one}
 use Rattle.cdl_kinds.specs.Meaning.Timers.{elapsed, true_false_hold}
 

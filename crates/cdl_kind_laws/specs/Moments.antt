@@ -1,6 +1,6 @@
 -- Ticks looked at one by one, without a running state.
 use Rattle.std.specs.Prelude.{ℕ, ◌%◌, ◌==◌, ℤ, Bool, ◌||◌, cond, List, [], ◌∷◌, Option, Some, None}
-use Rattle.cdl_kinds.specs.History.{History, Tick, is_on, rises, starts, word}
+use Rattle.cdl_values.specs.History.{History, Tick, is_on, rises, starts, word}
 use Rattle.cdl_kinds.specs.Meaning.Timers.{since}
 
 -- a tick, and the ticks before it

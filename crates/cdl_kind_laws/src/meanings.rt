@@ -1,8 +1,8 @@
 // What holds of the meaning of each kind.
 ghost use Rattle.std.specs.Prelude.{◌≡◌, ℤ, List, [], Some};
 ghost use Rattle.cdl_kinds.specs.declared.kind.Kind.{Kind};
-ghost use Rattle.cdl_kinds.specs.declared.value.Array.{Array};
-ghost use Rattle.cdl_kinds.specs.History.{AreValues, History, IsHistory, IsLater, IsTime, SameDirect};
+ghost use Rattle.cdl_values.specs.declared.value.Array.{Array};
+ghost use Rattle.cdl_values.specs.History.{AreValues, History, IsHistory, IsLater, IsTime, SameDirect};
 ghost use Rattle.cdl_kinds.specs.Conditions.{Keeps};
 ghost use Rattle.cdl_kinds.specs.Meanings.{meaning};
 ghost use Rattle.cdl_kinds.specs.Ports.{inputs, outputs};

@@ -3,7 +3,7 @@ ghost use Rattle.std.specs.Prelude.{◌≡◌, ◌+ℤ◌, ◌-ℤ◌, ◌≤ℤ
 ghost use Rattle.std.specs.List.{list_any};
 ghost use Rattle.std.specs.Int.RustNames.{int_le, int_lt};
 ghost use Rattle.cdl_decimal.specs.Counts.{total};
-ghost use Rattle.cdl_kinds.specs.History.{History, flag, is_on, word};
+ghost use Rattle.cdl_values.specs.History.{History, flag, is_on, word};
 ghost use Rattle.cdl_kinds.specs.Meaning.Edges.{latched, toggled};
 ghost use Rattle.cdl_kinds.specs.Meaning.Integers.{counted};
 ghost use Rattle.cdl_kinds.specs.Meaning.Reals.{above, above_threshold, below, below_threshold, between, remembered};

@@ -1,8 +1,8 @@
 // What holds of the state words of each kind.
 ghost use Rattle.std.specs.Prelude.{◌≡◌, ◌≤ℤ◌, ℤ, List, length};
 ghost use Rattle.cdl_kinds.specs.declared.kind.Kind.{Kind};
-ghost use Rattle.cdl_kinds.specs.declared.value.Array.{Array};
-ghost use Rattle.cdl_kinds.specs.History.{History, IsHistory, last_time};
+ghost use Rattle.cdl_values.specs.declared.value.Array.{Array};
+ghost use Rattle.cdl_values.specs.History.{History, IsHistory, last_time};
 ghost use Rattle.cdl_kinds.specs.Conditions.{Keeps};
 ghost use Rattle.cdl_kinds.specs.Meanings.{meaning};
 ghost use Rattle.cdl_kinds.specs.Ports.{inputs};

@@ -1,15 +1,16 @@
 -- The Integers among the values of a kind's parameters are in range.
-use Rattle.std.proofs.Common.{ℕ, zero, suc, ◌≤◌, ℤ, List, [], ◌∷◌, refl, arith}
+use Rattle.std.proofs.Common.{ℕ, zero, suc, ◌≤◌, ℤ, List, [], ◌∷◌, arith}
 use Rattle.std.specs.Prelude.{unsigned_abs, pos, slice_index_or, All}
-use Rattle.cdl_kinds.specs.declared.value.Array.{Array}
-use Rattle.cdl_kinds.specs.declared.value.Value.{Value}
-use Rattle.cdl_kinds.specs.declared.value.Value.TheVariants.{Boolean, Integer, Real, Str, Enumeration}
-use Rattle.cdl_kinds.specs.declared.value.ValueType.{ValueType}
-use Rattle.cdl_kinds.specs.declared.value.ValueType.TheVariants.{Boolean as BooleanType, Integer as IntegerType, Real as RealType, Str as StrType, Enumeration as EnumerationType}
+use Rattle.cdl_values.specs.declared.value.Array.{Array}
+use Rattle.cdl_values.specs.declared.value.Value.{Value}
+use Rattle.cdl_values.specs.declared.value.Value.TheVariants.{Boolean, Integer, Real, Str, Enumeration}
+use Rattle.cdl_values.specs.declared.value.ValueType.{ValueType}
+use Rattle.cdl_values.specs.declared.value.ValueType.TheVariants.{Boolean as BooleanType, Integer as IntegerType, Real as RealType, Str as StrType, Enumeration as EnumerationType}
 use Rattle.cdl_kinds.specs.declared.kind.Kind.{Kind}
 use Rattle.cdl_kinds.specs.Conditions.{Fits, FitRows}
-use Rattle.cdl_kinds.specs.Parameters.{ParameterRow, parameters}
-use Rattle.cdl_kinds.specs.Values.{HasIntegers, HaveIntegers, IsOf, first, integer_of, integer_at}
+use Rattle.cdl_kinds.specs.Table.{ParameterRow}
+use Rattle.cdl_kinds.specs.Parameters.{parameters}
+use Rattle.cdl_values.specs.Values.{HasIntegers, HaveIntegers, IsOf, first, integer_of, integer_at}
 
 value_small : (x : Value) → HasIntegers x → unsigned_abs (integer_of x) ≤ 2147483647
 value_small (Boolean b) h = omega arith
@@ -49,7 +50,7 @@ rows_fit : (nin : ℤ) (rs : List ParameterRow) (v : List Array) → FitRows nin
 rows_fit nin [] [] h = λ k d l. absurd (omega arith)
 rows_fit nin [] (a ∷ v) h = absurd h
 rows_fit nin (r ∷ rs) [] h = absurd h
-rows_fit nin (r ∷ rs) (a ∷ v) h = all_cons a v (items_fit a.kind a.items h.0.array.each) (rows_fit nin rs v h.1)
+rows_fit nin (r ∷ rs) (a ∷ v) h = all_cons a v (items_fit a.value_type a.items h.0.array.each) (rows_fit nin rs v h.1)
 
 pub fits_small : (k : Kind) (v : List Array) → Fits k v → HaveIntegers v
 fits_small k v h = rows_fit (integer_at v 0) (parameters k) v h.rows

@@ -1,4 +1,5 @@
 pub mod Finding
-pub mod Listing
-pub mod Writes
 pub mod Integers
+pub mod Laws
+pub mod Listing
+pub mod Positions

@@ -1,11 +1,10 @@
+pub mod Table
 pub mod Names
 pub mod Parameters
-pub mod Values
-pub mod History
 pub mod Ports
 pub mod Conditions
 pub mod StateWords
 pub mod Meaning
 pub mod Meanings
 pub mod States
-pub mod Laws
+pub mod inner

@@ -1,93 +1,33 @@
 -- The names of the kinds.
-use Rattle.std.specs.Prelude.{ℕ, cond, List, [], ◌∷◌, Option, Some, None, codes}
+use Rattle.std.specs.Prelude.{ℕ, cond, List, [], ◌∷◌, Option, Some, None}
 use Rattle.std.specs.Str.{bytes_eq}
 use Rattle.cdl_kinds.specs.declared.kind.Kind.{Kind}
-use Rattle.cdl_kinds.specs.declared.kind.Kind.TheVariants.{LogicalAnd, LogicalOr, LogicalNand, LogicalNor, LogicalXor, LogicalNot, LogicalMultiAnd, LogicalMultiOr, LogicalEdge, LogicalFallingEdge, LogicalChange, LogicalLatch, LogicalToggle, LogicalPre, LogicalSwitch, IntegersSwitch, RealsSwitch, LogicalTimer, LogicalTimerAccumulating, LogicalTrueDelay, LogicalTrueFalseHold, LogicalSourcesConstant, IntegersSourcesConstant, RealsSourcesConstant, LogicalSourcesPulse, IntegersAbs, RealsAbs, IntegersAdd, IntegersSubtract, IntegersMultiply, IntegersMax, IntegersMin, IntegersAddParameter, IntegersMultiSum, IntegersEqual, IntegersGreater, IntegersGreaterEqual, IntegersLess, IntegersLessEqual, IntegersGreaterThreshold, IntegersGreaterEqualThreshold, IntegersLessThreshold, IntegersLessEqualThreshold, IntegersChange, IntegersOnCounter, RealsAdd, RealsSubtract, RealsMultiply, RealsDivide, RealsMax, RealsMin, RealsAddParameter, RealsMultiplyByParameter, RealsAverage, RealsModulo, RealsMultiSum, RealsMultiMax, RealsMultiMin, RealsGreater, RealsLess, RealsGreaterThreshold, RealsLessThreshold, RealsHysteresis, RealsLimiter, RealsLine, ConversionsBooleanToInteger, ConversionsBooleanToReal, ConversionsIntegerToReal, ConversionsRealToInteger, DiscreteSampler, DiscreteZeroOrderHold, DiscreteUnitDelay, DiscreteTriggeredSampler, DiscreteTriggeredMax, DiscreteTriggeredMovingMean, RoutingBooleanScalarReplicator, RoutingIntegerScalarReplicator, RoutingRealScalarReplicator}
+use Rattle.cdl_kinds.specs.declared.kind.Kind.TheVariants as kind
+use Rattle.cdl_kinds.specs.Table.{row}
 
 -- the name of a kind
 abbrev pub kind_name : Kind → List ℕ
-kind_name LogicalAnd = codes "Logical.And"
-kind_name LogicalOr = codes "Logical.Or"
-kind_name LogicalNand = codes "Logical.Nand"
-kind_name LogicalNor = codes "Logical.Nor"
-kind_name LogicalXor = codes "Logical.Xor"
-kind_name LogicalNot = codes "Logical.Not"
-kind_name LogicalMultiAnd = codes "Logical.MultiAnd"
-kind_name LogicalMultiOr = codes "Logical.MultiOr"
-kind_name LogicalEdge = codes "Logical.Edge"
-kind_name LogicalFallingEdge = codes "Logical.FallingEdge"
-kind_name LogicalChange = codes "Logical.Change"
-kind_name LogicalLatch = codes "Logical.Latch"
-kind_name LogicalToggle = codes "Logical.Toggle"
-kind_name LogicalPre = codes "Logical.Pre"
-kind_name LogicalSwitch = codes "Logical.Switch"
-kind_name IntegersSwitch = codes "Integers.Switch"
-kind_name RealsSwitch = codes "Reals.Switch"
-kind_name LogicalTimer = codes "Logical.Timer"
-kind_name LogicalTimerAccumulating = codes "Logical.TimerAccumulating"
-kind_name LogicalTrueDelay = codes "Logical.TrueDelay"
-kind_name LogicalTrueFalseHold = codes "Logical.TrueFalseHold"
-kind_name LogicalSourcesConstant = codes "Logical.Sources.Constant"
-kind_name IntegersSourcesConstant = codes "Integers.Sources.Constant"
-kind_name RealsSourcesConstant = codes "Reals.Sources.Constant"
-kind_name LogicalSourcesPulse = codes "Logical.Sources.Pulse"
-kind_name IntegersAbs = codes "Integers.Abs"
-kind_name RealsAbs = codes "Reals.Abs"
-kind_name IntegersAdd = codes "Integers.Add"
-kind_name IntegersSubtract = codes "Integers.Subtract"
-kind_name IntegersMultiply = codes "Integers.Multiply"
-kind_name IntegersMax = codes "Integers.Max"
-kind_name IntegersMin = codes "Integers.Min"
-kind_name IntegersAddParameter = codes "Integers.AddParameter"
-kind_name IntegersMultiSum = codes "Integers.MultiSum"
-kind_name IntegersEqual = codes "Integers.Equal"
-kind_name IntegersGreater = codes "Integers.Greater"
-kind_name IntegersGreaterEqual = codes "Integers.GreaterEqual"
-kind_name IntegersLess = codes "Integers.Less"
-kind_name IntegersLessEqual = codes "Integers.LessEqual"
-kind_name IntegersGreaterThreshold = codes "Integers.GreaterThreshold"
-kind_name IntegersGreaterEqualThreshold = codes "Integers.GreaterEqualThreshold"
-kind_name IntegersLessThreshold = codes "Integers.LessThreshold"
-kind_name IntegersLessEqualThreshold = codes "Integers.LessEqualThreshold"
-kind_name IntegersChange = codes "Integers.Change"
-kind_name IntegersOnCounter = codes "Integers.OnCounter"
-kind_name RealsAdd = codes "Reals.Add"
-kind_name RealsSubtract = codes "Reals.Subtract"
-kind_name RealsMultiply = codes "Reals.Multiply"
-kind_name RealsDivide = codes "Reals.Divide"
-kind_name RealsMax = codes "Reals.Max"
-kind_name RealsMin = codes "Reals.Min"
-kind_name RealsAddParameter = codes "Reals.AddParameter"
-kind_name RealsMultiplyByParameter = codes "Reals.MultiplyByParameter"
-kind_name RealsAverage = codes "Reals.Average"
-kind_name RealsModulo = codes "Reals.Modulo"
-kind_name RealsMultiSum = codes "Reals.MultiSum"
-kind_name RealsMultiMax = codes "Reals.MultiMax"
-kind_name RealsMultiMin = codes "Reals.MultiMin"
-kind_name RealsGreater = codes "Reals.Greater"
-kind_name RealsLess = codes "Reals.Less"
-kind_name RealsGreaterThreshold = codes "Reals.GreaterThreshold"
-kind_name RealsLessThreshold = codes "Reals.LessThreshold"
-kind_name RealsHysteresis = codes "Reals.Hysteresis"
-kind_name RealsLimiter = codes "Reals.Limiter"
-kind_name RealsLine = codes "Reals.Line"
-kind_name ConversionsBooleanToInteger = codes "Conversions.BooleanToInteger"
-kind_name ConversionsBooleanToReal = codes "Conversions.BooleanToReal"
-kind_name ConversionsIntegerToReal = codes "Conversions.IntegerToReal"
-kind_name ConversionsRealToInteger = codes "Conversions.RealToInteger"
-kind_name DiscreteSampler = codes "Discrete.Sampler"
-kind_name DiscreteZeroOrderHold = codes "Discrete.ZeroOrderHold"
-kind_name DiscreteUnitDelay = codes "Discrete.UnitDelay"
-kind_name DiscreteTriggeredSampler = codes "Discrete.TriggeredSampler"
-kind_name DiscreteTriggeredMax = codes "Discrete.TriggeredMax"
-kind_name DiscreteTriggeredMovingMean = codes "Discrete.TriggeredMovingMean"
-kind_name RoutingBooleanScalarReplicator = codes "Routing.BooleanScalarReplicator"
-kind_name RoutingIntegerScalarReplicator = codes "Routing.IntegerScalarReplicator"
-kind_name RoutingRealScalarReplicator = codes "Routing.RealScalarReplicator"
+kind_name k = (row k).name
 
 -- the kinds, in the table's order
 unfoldable pub kinds : List Kind
-kinds = LogicalAnd ∷ LogicalOr ∷ LogicalNand ∷ LogicalNor ∷ LogicalXor ∷ LogicalNot ∷ LogicalMultiAnd ∷ LogicalMultiOr ∷ LogicalEdge ∷ LogicalFallingEdge ∷ LogicalChange ∷ LogicalLatch ∷ LogicalToggle ∷ LogicalPre ∷ LogicalSwitch ∷ IntegersSwitch ∷ RealsSwitch ∷ LogicalTimer ∷ LogicalTimerAccumulating ∷ LogicalTrueDelay ∷ LogicalTrueFalseHold ∷ LogicalSourcesConstant ∷ IntegersSourcesConstant ∷ RealsSourcesConstant ∷ LogicalSourcesPulse ∷ IntegersAbs ∷ RealsAbs ∷ IntegersAdd ∷ IntegersSubtract ∷ IntegersMultiply ∷ IntegersMax ∷ IntegersMin ∷ IntegersAddParameter ∷ IntegersMultiSum ∷ IntegersEqual ∷ IntegersGreater ∷ IntegersGreaterEqual ∷ IntegersLess ∷ IntegersLessEqual ∷ IntegersGreaterThreshold ∷ IntegersGreaterEqualThreshold ∷ IntegersLessThreshold ∷ IntegersLessEqualThreshold ∷ IntegersChange ∷ IntegersOnCounter ∷ RealsAdd ∷ RealsSubtract ∷ RealsMultiply ∷ RealsDivide ∷ RealsMax ∷ RealsMin ∷ RealsAddParameter ∷ RealsMultiplyByParameter ∷ RealsAverage ∷ RealsModulo ∷ RealsMultiSum ∷ RealsMultiMax ∷ RealsMultiMin ∷ RealsGreater ∷ RealsLess ∷ RealsGreaterThreshold ∷ RealsLessThreshold ∷ RealsHysteresis ∷ RealsLimiter ∷ RealsLine ∷ ConversionsBooleanToInteger ∷ ConversionsBooleanToReal ∷ ConversionsIntegerToReal ∷ ConversionsRealToInteger ∷ DiscreteSampler ∷ DiscreteZeroOrderHold ∷ DiscreteUnitDelay ∷ DiscreteTriggeredSampler ∷ DiscreteTriggeredMax ∷ DiscreteTriggeredMovingMean ∷ RoutingBooleanScalarReplicator ∷ RoutingIntegerScalarReplicator ∷ RoutingRealScalarReplicator ∷ []
+kinds =
+    kind.LogicalAnd ∷ kind.LogicalOr ∷ kind.LogicalNand ∷ kind.LogicalNor ∷ kind.LogicalXor ∷ kind.LogicalNot ∷ kind.LogicalMultiAnd ∷
+    kind.LogicalMultiOr ∷ kind.LogicalEdge ∷ kind.LogicalFallingEdge ∷ kind.LogicalChange ∷ kind.LogicalLatch ∷ kind.LogicalToggle ∷
+    kind.LogicalPre ∷ kind.LogicalSwitch ∷ kind.IntegersSwitch ∷ kind.RealsSwitch ∷ kind.LogicalTimer ∷ kind.LogicalTimerAccumulating ∷
+    kind.LogicalTrueDelay ∷ kind.LogicalTrueFalseHold ∷ kind.LogicalSourcesConstant ∷ kind.IntegersSourcesConstant ∷
+    kind.RealsSourcesConstant ∷ kind.LogicalSourcesPulse ∷ kind.IntegersAbs ∷ kind.RealsAbs ∷ kind.IntegersAdd ∷ kind.IntegersSubtract ∷
+    kind.IntegersMultiply ∷ kind.IntegersMax ∷ kind.IntegersMin ∷ kind.IntegersAddParameter ∷ kind.IntegersMultiSum ∷
+    kind.IntegersEqual ∷ kind.IntegersGreater ∷ kind.IntegersGreaterEqual ∷ kind.IntegersLess ∷ kind.IntegersLessEqual ∷
+    kind.IntegersGreaterThreshold ∷ kind.IntegersGreaterEqualThreshold ∷ kind.IntegersLessThreshold ∷ kind.IntegersLessEqualThreshold ∷
+    kind.IntegersChange ∷ kind.IntegersOnCounter ∷ kind.RealsAdd ∷ kind.RealsSubtract ∷ kind.RealsMultiply ∷ kind.RealsDivide ∷
+    kind.RealsMax ∷ kind.RealsMin ∷ kind.RealsAddParameter ∷ kind.RealsMultiplyByParameter ∷ kind.RealsAverage ∷ kind.RealsModulo ∷
+    kind.RealsMultiSum ∷ kind.RealsMultiMax ∷ kind.RealsMultiMin ∷ kind.RealsGreater ∷ kind.RealsLess ∷ kind.RealsGreaterThreshold ∷
+    kind.RealsLessThreshold ∷ kind.RealsHysteresis ∷ kind.RealsLimiter ∷ kind.RealsLine ∷ kind.ConversionsBooleanToInteger ∷
+    kind.ConversionsBooleanToReal ∷ kind.ConversionsIntegerToReal ∷ kind.ConversionsRealToInteger ∷ kind.DiscreteSampler ∷
+    kind.DiscreteZeroOrderHold ∷ kind.DiscreteUnitDelay ∷ kind.DiscreteTriggeredSampler ∷ kind.DiscreteTriggeredMax ∷
+    kind.DiscreteTriggeredMovingMean ∷ kind.RoutingBooleanScalarReplicator ∷ kind.RoutingIntegerScalarReplicator ∷
+    kind.RoutingRealScalarReplicator ∷ []
 
 -- the first of these kinds that has the name
 abbrev pub found : List ℕ → List Kind → Option Kind

@@ -1,11 +1,29 @@
 // The conditions of the kinds on their parameters.
-ghost use Rattle.std.specs.Prelude.{◌≡◌, ◌<◌, ◌^◌, length, MatchResult, IfOk, IfSome, Some, None, not, position};
-ghost use Rattle.cdl_kinds.specs.Conditions.{Fits, Keeps, conditions, first_broken, is_count, is_positive, is_share, is_window, not_negative};
+ghost use Rattle.std.specs.Prelude.{◌≡◌, ◌<◌, map, length, MatchResult, IfOk, IfSome, Some, None, not, position};
+ghost use Rattle.cdl_kinds.specs.Conditions.{Fits, Keeps, conditions, first_broken, holds, is_count, is_positive, is_share, is_window, not_negative};
 
 use crate::kind::Kind;
 use crate::params::{KindFault, Params, integer_at, real_at};
-use crate::value::Array;
+use crate::table::kind_row;
 use cdl_source::List;
+use cdl_values::Array;
+
+// What is asked of the values of parameters, which are named by their numbers, counted from 0.
+#[derive(Clone, Copy, Drop)]
+pub enum Condition {
+    // An Integer from 1 to 256.
+    Count(usize),
+    // An Integer from 1 to 1024.
+    Window(usize),
+    // A Real that is 0 or more.
+    NotNegative(usize),
+    // A Real above 0.
+    Positive(usize),
+    // A Real above 0 and below 1.
+    Share(usize),
+    // The first Real is below the second.
+    Below(usize, usize),
+}
 
 // From 1 to 256.
 fn is_count(z: i32) -> bool
@@ -40,115 +58,47 @@ fn is_share(count: i64) -> bool
     0 < count && count < 1_000_000
 }
 
-// The index of the first condition that does not hold.
-fn first_false(conditions: &[bool]) -> Option<usize>
-    ensures place { result ≡ position not conditions.now }
-    ensures within { IfSome result (λ i. i < length conditions.now) }
+// Whether the values keep the condition.
+fn holds(condition: Condition, values: &[Array]) -> bool
+    ensures { result ≡ holds values.now condition }
 {
-    conditions.iter().position(|holds| !*holds)
+    match condition {
+        Condition::Count(i) => is_count(integer_at(values, i)),
+        Condition::Window(i) => is_window(integer_at(values, i)),
+        Condition::NotNegative(i) => not_negative(real_at(values, i)),
+        Condition::Positive(i) => is_positive(real_at(values, i)),
+        Condition::Share(i) => is_share(real_at(values, i)),
+        Condition::Below(i, j) => real_at(values, i) < real_at(values, j),
+    }
 }
 
-// The number of the first condition that does not hold, counted from 1.
-fn first_broken(conditions: &[bool]) -> Option<u32>
-    requires { length conditions.now < 2 ^ 16 }
-    ensures { result ≡ first_broken conditions.now }
+// The index of the first condition that the values break.
+fn first_false(conditions: &[Condition], values: &[Array]) -> Option<usize>
+    ensures place { result ≡ position (λ condition. not (holds values.now condition)) conditions.now }
+    ensures within { IfSome result (λ i. i < length conditions.now) }
 {
-    match first_false(conditions) {
+    conditions
+        .iter()
+        .position(|condition| !holds(*condition, values))
+}
+
+// The number of the first condition that the values break, counted from 1.
+#[tactic(auto, using(crate::proofs::Positions::position_map))]
+fn first_broken(conditions: &[Condition], values: &[Array]) -> Option<u32>
+    requires { length conditions.now < 16 }
+    ensures { result ≡ first_broken (map (holds values.now) conditions.now) }
+{
+    match first_false(conditions, values) {
         Some(i) => Some(i as u32 + 1),
         None => None,
     }
 }
 
 // The number of the first condition of the kind that these values break.
-pub fn broken(kind: Kind, values: &[Array]) -> Option<u32>
+fn broken(kind: Kind, values: &[Array]) -> Option<u32>
     ensures { result ≡ first_broken (conditions kind values.now) }
 {
-    match kind {
-        Kind::LogicalAnd => None,
-        Kind::LogicalOr => None,
-        Kind::LogicalNand => None,
-        Kind::LogicalNor => None,
-        Kind::LogicalXor => None,
-        Kind::LogicalNot => None,
-        Kind::LogicalMultiAnd => first_broken(&[is_count(integer_at(values, 0))]),
-        Kind::LogicalMultiOr => first_broken(&[is_count(integer_at(values, 0))]),
-        Kind::LogicalEdge => None,
-        Kind::LogicalFallingEdge => None,
-        Kind::LogicalChange => None,
-        Kind::LogicalLatch => None,
-        Kind::LogicalToggle => None,
-        Kind::LogicalPre => None,
-        Kind::LogicalSwitch => None,
-        Kind::IntegersSwitch => None,
-        Kind::RealsSwitch => None,
-        Kind::LogicalTimer => first_broken(&[not_negative(real_at(values, 0))]),
-        Kind::LogicalTimerAccumulating => first_broken(&[not_negative(real_at(values, 0))]),
-        Kind::LogicalTrueDelay => first_broken(&[not_negative(real_at(values, 0))]),
-        Kind::LogicalTrueFalseHold => first_broken(&[
-            not_negative(real_at(values, 0)),
-            not_negative(real_at(values, 1)),
-        ]),
-        Kind::LogicalSourcesConstant => None,
-        Kind::IntegersSourcesConstant => None,
-        Kind::RealsSourcesConstant => None,
-        Kind::LogicalSourcesPulse => first_broken(&[
-            is_share(real_at(values, 0)),
-            is_positive(real_at(values, 1)),
-        ]),
-        Kind::IntegersAbs => None,
-        Kind::RealsAbs => None,
-        Kind::IntegersAdd => None,
-        Kind::IntegersSubtract => None,
-        Kind::IntegersMultiply => None,
-        Kind::IntegersMax => None,
-        Kind::IntegersMin => None,
-        Kind::IntegersAddParameter => None,
-        Kind::IntegersMultiSum => first_broken(&[is_count(integer_at(values, 0))]),
-        Kind::IntegersEqual => None,
-        Kind::IntegersGreater => None,
-        Kind::IntegersGreaterEqual => None,
-        Kind::IntegersLess => None,
-        Kind::IntegersLessEqual => None,
-        Kind::IntegersGreaterThreshold => None,
-        Kind::IntegersGreaterEqualThreshold => None,
-        Kind::IntegersLessThreshold => None,
-        Kind::IntegersLessEqualThreshold => None,
-        Kind::IntegersChange => None,
-        Kind::IntegersOnCounter => None,
-        Kind::RealsAdd => None,
-        Kind::RealsSubtract => None,
-        Kind::RealsMultiply => None,
-        Kind::RealsDivide => None,
-        Kind::RealsMax => None,
-        Kind::RealsMin => None,
-        Kind::RealsAddParameter => None,
-        Kind::RealsMultiplyByParameter => None,
-        Kind::RealsAverage => None,
-        Kind::RealsModulo => None,
-        Kind::RealsMultiSum => first_broken(&[is_count(integer_at(values, 0))]),
-        Kind::RealsMultiMax => first_broken(&[is_count(integer_at(values, 0))]),
-        Kind::RealsMultiMin => first_broken(&[is_count(integer_at(values, 0))]),
-        Kind::RealsGreater => first_broken(&[not_negative(real_at(values, 0))]),
-        Kind::RealsLess => first_broken(&[not_negative(real_at(values, 0))]),
-        Kind::RealsGreaterThreshold => first_broken(&[not_negative(real_at(values, 1))]),
-        Kind::RealsLessThreshold => first_broken(&[not_negative(real_at(values, 1))]),
-        Kind::RealsHysteresis => first_broken(&[real_at(values, 0) < real_at(values, 1)]),
-        Kind::RealsLimiter => first_broken(&[real_at(values, 1) < real_at(values, 0)]),
-        Kind::RealsLine => None,
-        Kind::ConversionsBooleanToInteger => None,
-        Kind::ConversionsBooleanToReal => None,
-        Kind::ConversionsIntegerToReal => None,
-        Kind::ConversionsRealToInteger => None,
-        Kind::DiscreteSampler => first_broken(&[is_positive(real_at(values, 0))]),
-        Kind::DiscreteZeroOrderHold => first_broken(&[is_positive(real_at(values, 0))]),
-        Kind::DiscreteUnitDelay => first_broken(&[is_positive(real_at(values, 0))]),
-        Kind::DiscreteTriggeredSampler => None,
-        Kind::DiscreteTriggeredMax => None,
-        Kind::DiscreteTriggeredMovingMean => first_broken(&[is_window(integer_at(values, 0))]),
-        Kind::RoutingBooleanScalarReplicator => first_broken(&[is_count(integer_at(values, 0))]),
-        Kind::RoutingIntegerScalarReplicator => first_broken(&[is_count(integer_at(values, 0))]),
-        Kind::RoutingRealScalarReplicator => first_broken(&[is_count(integer_at(values, 0))]),
-    }
+    first_broken(kind_row(kind).conditions, values)
 }
 
 /// Tests the conditions of the kind, in the order of the table, and takes the values as its parameters.

@@ -1,32 +1,29 @@
 // What a block of one kind does at a tick.
 ghost use Rattle.std.specs.Prelude.{◌≡◌, ℕ, ◌+◌, ◌<◌, ℤ, List, [], ◌∷◌, length, Option, Some, None, MatchResult, OnOk, OnErr, negsuc, ◌<ℤ◌, IsTrue, ◌↔◌};
-ghost use Rattle.cdl_kinds.specs.History.{History, Tick, Inputs, AreReady, AreValues, IsTime, IsLater, IsHistory, SameDirect, last_time, tick};
+ghost use Rattle.cdl_values.specs.History.{History, Tick, Signature, AreReady, AreValues, IsTime, IsLater, IsHistory, SameDirect, last_time, tick};
 
 use crate::steps::Steps;
+use cdl_values::NoValue;
 use std::sync::ledger::Ledger;
-
-/// There is no value: a result is out of the range of its type, or not defined.
-#[derive(Clone, Copy, Debug, PartialEq, Eq, Drop)]
-pub struct NoValue;
 
 /// A block of one kind, with its parameters. It keeps what it needs of the ticks before in state words, which the caller holds.
 /// A time is in milliseconds, from 0 to 10^13. A value is one word: 0 or 1 for a Boolean, the number for an Integer, the count of millionths for a Real.
 /// No method takes memory.
 pub trait Elementary {
     /// Its inputs.
-    ghost inputs: { Self → Inputs };
+    ghost inputs: { Self → Signature };
 
     /// How many words its state has.
     ghost width: { Self → ℕ };
 
     /// Its outputs.
-    ghost results: { Self → Inputs };
+    ghost results: { Self → Signature };
 
     /// What it gives at a time, after these ticks and with these inputs, or none.
     ghost meaning: { Self → History → ℤ → List ℤ → Option (List ℤ) };
 
     /// Where it may have no value, at a time and with these inputs, whatever its state.
-    ghost lacks: { Self → ℤ → List ℤ → Type 0 };
+    ghost may_lack: { Self → ℤ → List ℤ → Type 0 };
 
     /// The state stands for the ticks before.
     ghost stands: { Self → List ℤ → History → Type 0 };
@@ -69,7 +66,7 @@ pub trait Elementary {
         ensures step { steps.new ≡ steps.old + 1 }
         ensures typed { OnOk result (AreValues (results self.now) outs.new) }
         ensures gives { (h : History) → IsHistory (inputs self.now) (meaning self.now) h → IsLater now h → stands self.now state.now h → MatchResult result (λ _. meaning self.now h now ins.now ≡ Some outs.new) (λ _. meaning self.now h now ins.now ≡ None) }
-        ensures lacks { OnErr result (lacks self.now now ins.now) };
+        ensures lacks { OnErr result (may_lack self.now now ins.now) };
 
     /// Takes this tick into the state.
     fn absorb(&self, state: &mut [i64], now: i64, ins: &[i64])

@@ -2,6 +2,8 @@
 ghost use Rattle.std.specs.Prelude.{◌≡◌, List, ℕ, Option, Some, None, ◌↔◌};
 ghost use Rattle.cdl_kinds.specs.Names.{found, kind_name, kinds};
 
+use crate::table::kind_row;
+
 /// The kinds of elementary blocks. The variant is the kind's name without its points.
 #[derive(Clone, Copy, Debug, PartialEq, Eq, Drop)]
 pub enum Kind {
@@ -171,86 +173,7 @@ static KINDS: [Kind; 78] = [
 pub fn kind_name(kind: Kind) -> &'static str
     ensures { result.now ≡ kind_name kind }
 {
-    match kind {
-        Kind::LogicalAnd => "Logical.And",
-        Kind::LogicalOr => "Logical.Or",
-        Kind::LogicalNand => "Logical.Nand",
-        Kind::LogicalNor => "Logical.Nor",
-        Kind::LogicalXor => "Logical.Xor",
-        Kind::LogicalNot => "Logical.Not",
-        Kind::LogicalMultiAnd => "Logical.MultiAnd",
-        Kind::LogicalMultiOr => "Logical.MultiOr",
-        Kind::LogicalEdge => "Logical.Edge",
-        Kind::LogicalFallingEdge => "Logical.FallingEdge",
-        Kind::LogicalChange => "Logical.Change",
-        Kind::LogicalLatch => "Logical.Latch",
-        Kind::LogicalToggle => "Logical.Toggle",
-        Kind::LogicalPre => "Logical.Pre",
-        Kind::LogicalSwitch => "Logical.Switch",
-        Kind::IntegersSwitch => "Integers.Switch",
-        Kind::RealsSwitch => "Reals.Switch",
-        Kind::LogicalTimer => "Logical.Timer",
-        Kind::LogicalTimerAccumulating => "Logical.TimerAccumulating",
-        Kind::LogicalTrueDelay => "Logical.TrueDelay",
-        Kind::LogicalTrueFalseHold => "Logical.TrueFalseHold",
-        Kind::LogicalSourcesConstant => "Logical.Sources.Constant",
-        Kind::IntegersSourcesConstant => "Integers.Sources.Constant",
-        Kind::RealsSourcesConstant => "Reals.Sources.Constant",
-        Kind::LogicalSourcesPulse => "Logical.Sources.Pulse",
-        Kind::IntegersAbs => "Integers.Abs",
-        Kind::RealsAbs => "Reals.Abs",
-        Kind::IntegersAdd => "Integers.Add",
-        Kind::IntegersSubtract => "Integers.Subtract",
-        Kind::IntegersMultiply => "Integers.Multiply",
-        Kind::IntegersMax => "Integers.Max",
-        Kind::IntegersMin => "Integers.Min",
-        Kind::IntegersAddParameter => "Integers.AddParameter",
-        Kind::IntegersMultiSum => "Integers.MultiSum",
-        Kind::IntegersEqual => "Integers.Equal",
-        Kind::IntegersGreater => "Integers.Greater",
-        Kind::IntegersGreaterEqual => "Integers.GreaterEqual",
-        Kind::IntegersLess => "Integers.Less",
-        Kind::IntegersLessEqual => "Integers.LessEqual",
-        Kind::IntegersGreaterThreshold => "Integers.GreaterThreshold",
-        Kind::IntegersGreaterEqualThreshold => "Integers.GreaterEqualThreshold",
-        Kind::IntegersLessThreshold => "Integers.LessThreshold",
-        Kind::IntegersLessEqualThreshold => "Integers.LessEqualThreshold",
-        Kind::IntegersChange => "Integers.Change",
-        Kind::IntegersOnCounter => "Integers.OnCounter",
-        Kind::RealsAdd => "Reals.Add",
-        Kind::RealsSubtract => "Reals.Subtract",
-        Kind::RealsMultiply => "Reals.Multiply",
-        Kind::RealsDivide => "Reals.Divide",
-        Kind::RealsMax => "Reals.Max",
-        Kind::RealsMin => "Reals.Min",
-        Kind::RealsAddParameter => "Reals.AddParameter",
-        Kind::RealsMultiplyByParameter => "Reals.MultiplyByParameter",
-        Kind::RealsAverage => "Reals.Average",
-        Kind::RealsModulo => "Reals.Modulo",
-        Kind::RealsMultiSum => "Reals.MultiSum",
-        Kind::RealsMultiMax => "Reals.MultiMax",
-        Kind::RealsMultiMin => "Reals.MultiMin",
-        Kind::RealsGreater => "Reals.Greater",
-        Kind::RealsLess => "Reals.Less",
-        Kind::RealsGreaterThreshold => "Reals.GreaterThreshold",
-        Kind::RealsLessThreshold => "Reals.LessThreshold",
-        Kind::RealsHysteresis => "Reals.Hysteresis",
-        Kind::RealsLimiter => "Reals.Limiter",
-        Kind::RealsLine => "Reals.Line",
-        Kind::ConversionsBooleanToInteger => "Conversions.BooleanToInteger",
-        Kind::ConversionsBooleanToReal => "Conversions.BooleanToReal",
-        Kind::ConversionsIntegerToReal => "Conversions.IntegerToReal",
-        Kind::ConversionsRealToInteger => "Conversions.RealToInteger",
-        Kind::DiscreteSampler => "Discrete.Sampler",
-        Kind::DiscreteZeroOrderHold => "Discrete.ZeroOrderHold",
-        Kind::DiscreteUnitDelay => "Discrete.UnitDelay",
-        Kind::DiscreteTriggeredSampler => "Discrete.TriggeredSampler",
-        Kind::DiscreteTriggeredMax => "Discrete.TriggeredMax",
-        Kind::DiscreteTriggeredMovingMean => "Discrete.TriggeredMovingMean",
-        Kind::RoutingBooleanScalarReplicator => "Routing.BooleanScalarReplicator",
-        Kind::RoutingIntegerScalarReplicator => "Routing.IntegerScalarReplicator",
-        Kind::RoutingRealScalarReplicator => "Routing.RealScalarReplicator",
-    }
+    kind_row(kind).name
 }
 
 // The first of these kinds that has the name.

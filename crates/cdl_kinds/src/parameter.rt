@@ -1,9 +1,10 @@
-// The parameters of the kinds, and their defaults.
+// Parameters, and those that rows of the table name.
 ghost use Rattle.std.specs.Prelude.{◌≡◌, map};
-ghost use Rattle.cdl_kinds.specs.Parameters.{parameters, row_of};
+ghost use Rattle.cdl_kinds.specs.Parameters.{parameters, parameter_row};
 
 use crate::kind::Kind;
-use crate::value::ValueType;
+use crate::table::kind_row;
+use cdl_values::ValueType;
 
 /// The default of a parameter.
 #[derive(Clone, Copy, Debug, PartialEq, Eq, Drop)]
@@ -26,345 +27,130 @@ pub enum Preset {
 #[derive(Clone, Copy, Debug, Drop)]
 pub struct Parameter {
     pub name: &'static str,
-    pub kind: ValueType,
+    pub value_type: ValueType,
     pub per_nin: bool,
     pub preset: Preset,
 }
 
-const NIN: Parameter = Parameter {
-    name: "nin",
-    kind: ValueType::Integer,
-    per_nin: false,
-    preset: Preset::Absent,
-};
+// A parameter with one value.
+macro_rules! parameter {
+    ($name:literal, $value_type:ident, $preset:expr) => {
+        Parameter {
+            name: $name,
+            value_type: ValueType::$value_type,
+            per_nin: false,
+            preset: $preset,
+        }
+    };
+}
 
-const BOOLEAN_PRE_U_START: Parameter = Parameter {
-    name: "pre_u_start",
-    kind: ValueType::Boolean,
-    per_nin: false,
-    preset: Preset::Boolean(false),
-};
+// The factors of a sum, one for each input.
+macro_rules! factors {
+    ($value_type:ident) => {
+        Parameter {
+            name: "k",
+            value_type: ValueType::$value_type,
+            per_nin: true,
+            preset: Preset::Ones,
+        }
+    };
+}
 
-const INTEGER_PRE_U_START: Parameter = Parameter {
-    name: "pre_u_start",
-    kind: ValueType::Integer,
-    per_nin: false,
-    preset: Preset::Integer(0),
-};
+pub(crate) const NIN: Parameter = parameter!("nin", Integer, Preset::Absent);
 
-const REAL_T: Parameter = Parameter {
-    name: "t",
-    kind: ValueType::Real,
-    per_nin: false,
-    preset: Preset::Real(0),
-};
+pub(crate) const PRE_U_START_B: Parameter = parameter!(
+    "pre_u_start",
+    Boolean,
+    Preset::Boolean(false)
+);
 
-const INTEGER_T: Parameter = Parameter {
-    name: "t",
-    kind: ValueType::Integer,
-    per_nin: false,
-    preset: Preset::Integer(0),
-};
+pub(crate) const PRE_U_START_I: Parameter = parameter!("pre_u_start", Integer, Preset::Integer(0));
 
-const DELAY_TIME: Parameter = Parameter {
-    name: "delayTime",
-    kind: ValueType::Real,
-    per_nin: false,
-    preset: Preset::Absent,
-};
+pub(crate) const T_R: Parameter = parameter!("t", Real, Preset::Real(0));
 
-const DELAY_ON_INIT: Parameter = Parameter {
-    name: "delayOnInit",
-    kind: ValueType::Boolean,
-    per_nin: false,
-    preset: Preset::Boolean(false),
-};
+pub(crate) const T_I: Parameter = parameter!("t", Integer, Preset::Integer(0));
 
-const TRUE_HOLD_DURATION: Parameter = Parameter {
-    name: "trueHoldDuration",
-    kind: ValueType::Real,
-    per_nin: false,
-    preset: Preset::Absent,
-};
+pub(crate) const DELAY_TIME: Parameter = parameter!("delayTime", Real, Preset::Absent);
 
-const FALSE_HOLD_DURATION: Parameter = Parameter {
-    name: "falseHoldDuration",
-    kind: ValueType::Real,
-    per_nin: false,
-    preset: Preset::Same(0),
-};
+pub(crate) const DELAY_ON_INIT: Parameter = parameter!(
+    "delayOnInit",
+    Boolean,
+    Preset::Boolean(false)
+);
 
-const BOOLEAN_K: Parameter = Parameter {
-    name: "k",
-    kind: ValueType::Boolean,
-    per_nin: false,
-    preset: Preset::Absent,
-};
+pub(crate) const TRUE_HOLD_DURATION: Parameter = parameter!(
+    "trueHoldDuration",
+    Real,
+    Preset::Absent
+);
 
-const INTEGER_K: Parameter = Parameter {
-    name: "k",
-    kind: ValueType::Integer,
-    per_nin: false,
-    preset: Preset::Absent,
-};
+pub(crate) const FALSE_HOLD_DURATION: Parameter = parameter!(
+    "falseHoldDuration",
+    Real,
+    Preset::Same(0)
+);
 
-const REAL_K: Parameter = Parameter {
-    name: "k",
-    kind: ValueType::Real,
-    per_nin: false,
-    preset: Preset::Absent,
-};
+pub(crate) const K_B: Parameter = parameter!("k", Boolean, Preset::Absent);
 
-const INTEGER_KS: Parameter = Parameter {
-    name: "k",
-    kind: ValueType::Integer,
-    per_nin: true,
-    preset: Preset::Ones,
-};
+pub(crate) const K_I: Parameter = parameter!("k", Integer, Preset::Absent);
 
-const REAL_KS: Parameter = Parameter {
-    name: "k",
-    kind: ValueType::Real,
-    per_nin: true,
-    preset: Preset::Ones,
-};
+pub(crate) const K_R: Parameter = parameter!("k", Real, Preset::Absent);
 
-const WIDTH: Parameter = Parameter {
-    name: "width",
-    kind: ValueType::Real,
-    per_nin: false,
-    preset: Preset::Real(500_000),
-};
+pub(crate) const K_I_EACH: Parameter = factors!(Integer);
 
-const PERIOD: Parameter = Parameter {
-    name: "period",
-    kind: ValueType::Real,
-    per_nin: false,
-    preset: Preset::Absent,
-};
+pub(crate) const K_R_EACH: Parameter = factors!(Real);
 
-const SHIFT: Parameter = Parameter {
-    name: "shift",
-    kind: ValueType::Real,
-    per_nin: false,
-    preset: Preset::Real(0),
-};
+pub(crate) const WIDTH: Parameter = parameter!("width", Real, Preset::Real(500_000));
 
-const INTEGER_P: Parameter = Parameter {
-    name: "p",
-    kind: ValueType::Integer,
-    per_nin: false,
-    preset: Preset::Absent,
-};
+pub(crate) const PERIOD: Parameter = parameter!("period", Real, Preset::Absent);
 
-const REAL_P: Parameter = Parameter {
-    name: "p",
-    kind: ValueType::Real,
-    per_nin: false,
-    preset: Preset::Absent,
-};
+pub(crate) const SHIFT: Parameter = parameter!("shift", Real, Preset::Real(0));
 
-const INTEGER_Y_START: Parameter = Parameter {
-    name: "y_start",
-    kind: ValueType::Integer,
-    per_nin: false,
-    preset: Preset::Integer(0),
-};
+pub(crate) const P_I: Parameter = parameter!("p", Integer, Preset::Absent);
 
-const REAL_Y_START: Parameter = Parameter {
-    name: "y_start",
-    kind: ValueType::Real,
-    per_nin: false,
-    preset: Preset::Real(0),
-};
+pub(crate) const P_R: Parameter = parameter!("p", Real, Preset::Absent);
 
-const H: Parameter = Parameter {
-    name: "h",
-    kind: ValueType::Real,
-    per_nin: false,
-    preset: Preset::Real(0),
-};
+pub(crate) const Y_START_I: Parameter = parameter!("y_start", Integer, Preset::Integer(0));
 
-const PRE_Y_START: Parameter = Parameter {
-    name: "pre_y_start",
-    kind: ValueType::Boolean,
-    per_nin: false,
-    preset: Preset::Boolean(false),
-};
+pub(crate) const Y_START_R: Parameter = parameter!("y_start", Real, Preset::Real(0));
 
-const U_LOW: Parameter = Parameter {
-    name: "uLow",
-    kind: ValueType::Real,
-    per_nin: false,
-    preset: Preset::Absent,
-};
+pub(crate) const H: Parameter = parameter!("h", Real, Preset::Real(0));
 
-const U_HIGH: Parameter = Parameter {
-    name: "uHigh",
-    kind: ValueType::Real,
-    per_nin: false,
-    preset: Preset::Absent,
-};
+pub(crate) const PRE_Y_START: Parameter = parameter!(
+    "pre_y_start",
+    Boolean,
+    Preset::Boolean(false)
+);
 
-const U_MAX: Parameter = Parameter {
-    name: "uMax",
-    kind: ValueType::Real,
-    per_nin: false,
-    preset: Preset::Absent,
-};
+pub(crate) const U_LOW: Parameter = parameter!("uLow", Real, Preset::Absent);
 
-const U_MIN: Parameter = Parameter {
-    name: "uMin",
-    kind: ValueType::Real,
-    per_nin: false,
-    preset: Preset::Absent,
-};
+pub(crate) const U_HIGH: Parameter = parameter!("uHigh", Real, Preset::Absent);
 
-const LIMIT_BELOW: Parameter = Parameter {
-    name: "limitBelow",
-    kind: ValueType::Boolean,
-    per_nin: false,
-    preset: Preset::Boolean(true),
-};
+pub(crate) const U_MAX: Parameter = parameter!("uMax", Real, Preset::Absent);
 
-const LIMIT_ABOVE: Parameter = Parameter {
-    name: "limitAbove",
-    kind: ValueType::Boolean,
-    per_nin: false,
-    preset: Preset::Boolean(true),
-};
+pub(crate) const U_MIN: Parameter = parameter!("uMin", Real, Preset::Absent);
 
-const INTEGER_TRUE: Parameter = Parameter {
-    name: "integerTrue",
-    kind: ValueType::Integer,
-    per_nin: false,
-    preset: Preset::Integer(1),
-};
+pub(crate) const LIMIT_BELOW: Parameter = parameter!("limitBelow", Boolean, Preset::Boolean(true));
 
-const INTEGER_FALSE: Parameter = Parameter {
-    name: "integerFalse",
-    kind: ValueType::Integer,
-    per_nin: false,
-    preset: Preset::Integer(0),
-};
+pub(crate) const LIMIT_ABOVE: Parameter = parameter!("limitAbove", Boolean, Preset::Boolean(true));
 
-const REAL_TRUE: Parameter = Parameter {
-    name: "realTrue",
-    kind: ValueType::Real,
-    per_nin: false,
-    preset: Preset::Real(1_000_000),
-};
+pub(crate) const INTEGER_TRUE: Parameter = parameter!("integerTrue", Integer, Preset::Integer(1));
 
-const REAL_FALSE: Parameter = Parameter {
-    name: "realFalse",
-    kind: ValueType::Real,
-    per_nin: false,
-    preset: Preset::Real(0),
-};
+pub(crate) const INTEGER_FALSE: Parameter = parameter!("integerFalse", Integer, Preset::Integer(0));
 
-const SAMPLE_PERIOD: Parameter = Parameter {
-    name: "samplePeriod",
-    kind: ValueType::Real,
-    per_nin: false,
-    preset: Preset::Absent,
-};
+pub(crate) const REAL_TRUE: Parameter = parameter!("realTrue", Real, Preset::Real(1_000_000));
 
-const N: Parameter = Parameter {
-    name: "n",
-    kind: ValueType::Integer,
-    per_nin: false,
-    preset: Preset::Absent,
-};
+pub(crate) const REAL_FALSE: Parameter = parameter!("realFalse", Real, Preset::Real(0));
 
-const NOUT: Parameter = Parameter {
-    name: "nout",
-    kind: ValueType::Integer,
-    per_nin: false,
-    preset: Preset::Absent,
-};
+pub(crate) const SAMPLE_PERIOD: Parameter = parameter!("samplePeriod", Real, Preset::Absent);
+
+pub(crate) const N: Parameter = parameter!("n", Integer, Preset::Absent);
+
+pub(crate) const NOUT: Parameter = parameter!("nout", Integer, Preset::Absent);
 
 /// The parameters of a kind, in the order of the table.
 pub fn parameters(kind: Kind) -> &'static [Parameter]
-    ensures { map row_of result.now ≡ parameters kind }
+    ensures { map parameter_row result.now ≡ parameters kind }
 {
-    match kind {
-        Kind::LogicalAnd => &[],
-        Kind::LogicalOr => &[],
-        Kind::LogicalNand => &[],
-        Kind::LogicalNor => &[],
-        Kind::LogicalXor => &[],
-        Kind::LogicalNot => &[],
-        Kind::LogicalMultiAnd => &[NIN],
-        Kind::LogicalMultiOr => &[NIN],
-        Kind::LogicalEdge => &[BOOLEAN_PRE_U_START],
-        Kind::LogicalFallingEdge => &[BOOLEAN_PRE_U_START],
-        Kind::LogicalChange => &[BOOLEAN_PRE_U_START],
-        Kind::LogicalLatch => &[],
-        Kind::LogicalToggle => &[],
-        Kind::LogicalPre => &[BOOLEAN_PRE_U_START],
-        Kind::LogicalSwitch => &[],
-        Kind::IntegersSwitch => &[],
-        Kind::RealsSwitch => &[],
-        Kind::LogicalTimer => &[REAL_T],
-        Kind::LogicalTimerAccumulating => &[REAL_T],
-        Kind::LogicalTrueDelay => &[DELAY_TIME, DELAY_ON_INIT],
-        Kind::LogicalTrueFalseHold => &[TRUE_HOLD_DURATION, FALSE_HOLD_DURATION],
-        Kind::LogicalSourcesConstant => &[BOOLEAN_K],
-        Kind::IntegersSourcesConstant => &[INTEGER_K],
-        Kind::RealsSourcesConstant => &[REAL_K],
-        Kind::LogicalSourcesPulse => &[WIDTH, PERIOD, SHIFT],
-        Kind::IntegersAbs => &[],
-        Kind::RealsAbs => &[],
-        Kind::IntegersAdd => &[],
-        Kind::IntegersSubtract => &[],
-        Kind::IntegersMultiply => &[],
-        Kind::IntegersMax => &[],
-        Kind::IntegersMin => &[],
-        Kind::IntegersAddParameter => &[INTEGER_P],
-        Kind::IntegersMultiSum => &[NIN, INTEGER_KS],
-        Kind::IntegersEqual => &[],
-        Kind::IntegersGreater => &[],
-        Kind::IntegersGreaterEqual => &[],
-        Kind::IntegersLess => &[],
-        Kind::IntegersLessEqual => &[],
-        Kind::IntegersGreaterThreshold => &[INTEGER_T],
-        Kind::IntegersGreaterEqualThreshold => &[INTEGER_T],
-        Kind::IntegersLessThreshold => &[INTEGER_T],
-        Kind::IntegersLessEqualThreshold => &[INTEGER_T],
-        Kind::IntegersChange => &[INTEGER_PRE_U_START],
-        Kind::IntegersOnCounter => &[INTEGER_Y_START],
-        Kind::RealsAdd => &[],
-        Kind::RealsSubtract => &[],
-        Kind::RealsMultiply => &[],
-        Kind::RealsDivide => &[],
-        Kind::RealsMax => &[],
-        Kind::RealsMin => &[],
-        Kind::RealsAddParameter => &[REAL_P],
-        Kind::RealsMultiplyByParameter => &[REAL_K],
-        Kind::RealsAverage => &[],
-        Kind::RealsModulo => &[],
-        Kind::RealsMultiSum => &[NIN, REAL_KS],
-        Kind::RealsMultiMax => &[NIN],
-        Kind::RealsMultiMin => &[NIN],
-        Kind::RealsGreater => &[H, PRE_Y_START],
-        Kind::RealsLess => &[H, PRE_Y_START],
-        Kind::RealsGreaterThreshold => &[REAL_T, H, PRE_Y_START],
-        Kind::RealsLessThreshold => &[REAL_T, H, PRE_Y_START],
-        Kind::RealsHysteresis => &[U_LOW, U_HIGH, PRE_Y_START],
-        Kind::RealsLimiter => &[U_MAX, U_MIN],
-        Kind::RealsLine => &[LIMIT_BELOW, LIMIT_ABOVE],
-        Kind::ConversionsBooleanToInteger => &[INTEGER_TRUE, INTEGER_FALSE],
-        Kind::ConversionsBooleanToReal => &[REAL_TRUE, REAL_FALSE],
-        Kind::ConversionsIntegerToReal => &[],
-        Kind::ConversionsRealToInteger => &[],
-        Kind::DiscreteSampler => &[SAMPLE_PERIOD],
-        Kind::DiscreteZeroOrderHold => &[SAMPLE_PERIOD],
-        Kind::DiscreteUnitDelay => &[SAMPLE_PERIOD, REAL_Y_START],
-        Kind::DiscreteTriggeredSampler => &[REAL_Y_START],
-        Kind::DiscreteTriggeredMax => &[],
-        Kind::DiscreteTriggeredMovingMean => &[N],
-        Kind::RoutingBooleanScalarReplicator => &[NOUT],
-        Kind::RoutingIntegerScalarReplicator => &[NOUT],
-        Kind::RoutingRealScalarReplicator => &[NOUT],
-    }
+    kind_row(kind).parameters
 }

@@ -1,12 +1,11 @@
 // The values of a kind's parameters, and its conditions on them.
 ghost use Rattle.std.specs.Prelude.{◌≡◌, ◌≤◌, ◌^◌, IfOk, pos, unsigned_abs};
-ghost use Rattle.cdl_kinds.specs.Ports.{size_of};
-ghost use Rattle.cdl_kinds.specs.Values.{HaveIntegers, boolean_at, integer_at, items_at, real_at};
+ghost use Rattle.cdl_kinds.specs.Ports.{nin_or_nout};
+ghost use Rattle.cdl_values.specs.Values.{HaveIntegers, boolean_at, integer_at, items_at, real_at};
 
-use crate::kind::Kind;
-use crate::value::{Array, Value};
 use cdl_decimal::Real;
 use cdl_source::{List, OutOfMemory};
+use cdl_values::{Array, Value};
 use std::alloc::Global;
 use std::marker::Model;
 
@@ -18,11 +17,11 @@ pub struct Params {
 
 impl Model for Params {
     ghost use Rattle.std.specs.Prelude.{List};
-    ghost use Rattle.cdl_kinds.specs.declared.value.Array.{Array};
+    ghost use Rattle.cdl_values.specs.declared.value.Array.{Array};
 
     ghost Value = { List Array };
 
-    ghost use Rattle.cdl_kinds.specs.Values.{HaveIntegers};
+    ghost use Rattle.cdl_values.specs.Values.{HaveIntegers};
 
     ghost view = { λ p. p.values };
 
@@ -104,7 +103,7 @@ impl Params {
 
     /// The value of `nin` or `nout` where the kind has one of them, the first of its parameters.
     pub fn size(&self) -> usize
-        ensures size { result ≡ size_of self.now }
+        ensures size { result ≡ nin_or_nout self.now }
         ensures small { result ≤ 2 ^ 31 }
     {
         integer_at(self.values.items(), 0).unsigned_abs() as usize

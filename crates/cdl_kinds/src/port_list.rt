@@ -1,11 +1,13 @@
 // The ports of a block, one by one.
 ghost use Rattle.std.specs.Prelude.{◌≡◌, ◌+◌, ◌-◌, ◌^◌, ◌<◌, ◌≤◌, map, length, true, false};
 ghost use Rattle.cdl_kinds.specs.Conditions.{Keeps};
-ghost use Rattle.cdl_kinds.specs.Ports.{group_of, group_size, inputs, outputs, port_among, port_at, port_in, port_row, ports_count};
+ghost use Rattle.cdl_kinds.specs.Ports.{group_size, inputs, outputs, port_among, port_at, port_in, port_row, ports_count};
+ghost use Rattle.cdl_kinds.specs.inner.Declared.{group_of};
 
 use crate::kind::Kind;
 use crate::params::Params;
-use crate::ports::{Group, Port, port_groups};
+use crate::ports::{Group, Port};
+use crate::table::kind_row;
 
 // How many ports a group has, where an array has n.
 fn size(group: Group, n: usize) -> usize
@@ -36,7 +38,7 @@ fn port_in(group: Group, i: usize, input: bool, direct: bool) -> Port
     Port {
         name: group.name,
         index: if group.many { i as u32 + 1 } else { 0 },
-        kind: group.kind,
+        value_type: group.value_type,
         input,
         direct,
     }
@@ -64,9 +66,9 @@ pub fn port_count(kind: Kind, params: &Params) -> usize
     requires { Keeps kind params.now }
     ensures { result ≡ (inputs kind params.now).count + (outputs kind params.now).count }
 {
-    let sides = port_groups(kind);
+    let row = kind_row(kind);
     let n = params.size();
-    count_all(sides.ins, n) + count_all(sides.outs, n)
+    count_all(row.ins, n) + count_all(row.outs, n)
 }
 
 /// The port of that number, counted from 0: first the inputs, then the outputs, each in the order of the table.
@@ -74,15 +76,15 @@ pub fn port(kind: Kind, params: &Params, i: usize) -> Port
     requires keeps { Keeps kind params.now }
     requires within { i < (inputs kind params.now).count + (outputs kind params.now).count }
     ensures row { port_row result ≡ port_at kind params.now i }
-    ensures input { i < (inputs kind params.now).count → (result.input ≡ true) × (result.kind ≡ (inputs kind params.now).sort i) × (result.direct ≡ (inputs kind params.now).direct i) }
-    ensures output { (inputs kind params.now).count ≤ i → (result.input ≡ false) × (result.kind ≡ (outputs kind params.now).sort (i - (inputs kind params.now).count)) }
+    ensures input { i < (inputs kind params.now).count → (result.input ≡ true) × (result.value_type ≡ (inputs kind params.now).value_type i) × (result.direct ≡ (inputs kind params.now).direct i) }
+    ensures output { (inputs kind params.now).count ≤ i → (result.input ≡ false) × (result.value_type ≡ (outputs kind params.now).value_type (i - (inputs kind params.now).count)) }
 {
-    let sides = port_groups(kind);
+    let row = kind_row(kind);
     let n = params.size();
-    let count = count_all(sides.ins, n);
+    let count = count_all(row.ins, n);
     if i < count {
-        port_among(sides.ins, n, i, true, sides.direct)
+        port_among(row.ins, n, i, true, row.direct)
     } else {
-        port_among(sides.outs, n, i - count, false, false)
+        port_among(row.outs, n, i - count, false, false)
     }
 }

@@ -1,7 +1,8 @@
 // A net of a short text.
 use cdl_connect::{Body, Net, NetElement, NetInstance, RawWire};
-use cdl_kinds::{Kind, ValueType, check};
+use cdl_kinds::{Kind, check};
 use cdl_source::{List, OutOfMemory, Text};
+use cdl_values::ValueType;
 use std::alloc::Global;
 
 // A number: 0 to 9, and then a for 10.

@@ -1,7 +1,7 @@
 -- A network: its instances, elements and wires, each in order, under names of any kind. The names of a model are paths, those of a net are numbers.
 use Rattle.std.specs.Prelude.{ℕ, Bool, List, Option}
-use Rattle.cdl_kinds.specs.declared.value.ValueType.{ValueType}
-use Rattle.cdl_kinds.specs.History.{Meaning}
+use Rattle.cdl_values.specs.declared.value.ValueType.{ValueType}
+use Rattle.cdl_values.specs.History.{Meaning}
 
 -- a wire joins two elements in the scope of an instance
 pub record Wire (I E : Type 0) : Type 0 where

@@ -1,6 +1,6 @@
 -- What the check and an order of a network give: each element has one origin, and walks end.
 use Rattle.std.specs.Prelude.{ℕ, ℤ, ◌<◌, ◌≡◌, ◌≤◌, length, map, Bool, true, List, [], ◌∷◌, Some, None}
-use Rattle.cdl_kinds.specs.History.{History, Meaning}
+use Rattle.cdl_values.specs.History.{History, Meaning}
 use Rattle.cdl_network.specs.Lists.{In, has_some}
 use Rattle.cdl_network.specs.Network.{Network}
 use Rattle.cdl_network.specs.Dependence.{Origin, HasOrigin, root_inputs, inputs_of, outputs_of, Determines, Walk}

@@ -1,8 +1,8 @@
 -- The rules on wires and elements, each by its number, and the first that is broken.
 use Rattle.std.specs.Prelude.{ℕ, zero, suc, ◌+◌, ◌==◌, ◌&&◌, ◌||◌, Bool, true, false, cond, not, List, [], ◌∷◌, length, map, sum, filter, Option, Some, None}
 use Rattle.std.specs.Str.{bytes_eq}
-use Rattle.cdl_kinds.specs.declared.value.ValueType.{ValueType}
-use Rattle.cdl_kinds.specs.declared.value.ValueType.TheVariants.{Boolean, Integer, Real, Str, Enumeration}
+use Rattle.cdl_values.specs.declared.value.ValueType.{ValueType}
+use Rattle.cdl_values.specs.declared.value.ValueType.TheVariants.{Boolean, Integer, Real, Str, Enumeration}
 use Rattle.cdl_network.specs.Lists.{count, first_of, has_some}
 use Rattle.cdl_network.specs.Network.{Network, Wire}
 

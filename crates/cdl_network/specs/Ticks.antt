@@ -1,6 +1,6 @@
 -- What a list of valuations has to be that solves a network for a list of ticks: equations, without an order and without states.
 use Rattle.std.specs.Prelude.{ℕ, ℤ, pos, suc, ◌<◌, ◌≤◌, length, take, ◌≡◌, ◌⊎◌, ◌&&◌, Bool, false, not, List, [], ◌∷◌, map, Option, Some, None, slice_get}
-use Rattle.cdl_kinds.specs.History.{History, tick}
+use Rattle.cdl_values.specs.History.{History, tick}
 use Rattle.cdl_network.specs.Lists.{has_some, first_that}
 use Rattle.cdl_network.specs.Network.{Network}
 use Rattle.cdl_network.specs.Dependence.{Origin, Row, From, Out, HasOrigin, inputs_of, direct_of}

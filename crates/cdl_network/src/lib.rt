@@ -3,7 +3,7 @@
 #![tactic(auto)]
 
 ghost use Rattle.std.specs.Prelude.{◌≡◌, ◌↔◌, ℕ, ℤ, List, [], ◌∷◌, ◌++◌, map, Some, None, Option, option_map, Bool, true};
-ghost use Rattle.cdl_kinds.specs.History.{tick};
+ghost use Rattle.cdl_values.specs.History.{tick};
 ghost use Rattle.cdl_network.specs.Lists.{In, Apart, Tells, has_some, number};
 ghost use Rattle.cdl_network.specs.Network.{Network};
 ghost use Rattle.cdl_network.specs.Rules.{word_count};

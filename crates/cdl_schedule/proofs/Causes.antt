@@ -6,7 +6,7 @@ use Rattle.std.proofs.lemmas.List.{get_or-set_same, get_or-set_other, length-set
 use Rattle.std.proofs.lemmas.Option.{slice_get_within, slice_get_read}
 use Rattle.cdl_kinds.specs.declared.kind.Kind.{Kind}
 use Rattle.cdl_kinds.specs.declared.kind.Kind.TheVariants.{LogicalPre, DiscreteUnitDelay}
-use Rattle.cdl_kinds.specs.Ports.{ports}
+use Rattle.cdl_kinds.specs.Table.{row}
 use Rattle.cdl_network.specs.Dependence.{Origin, Row, From, Out, HasOrigin, direct_of, root_inputs, outputs_of, is_of, is_root_input}
 use Rattle.cdl_network.specs.Lists.{In, has_some}
 use Rattle.cdl_network.specs.Rules.{is_wanted, sink_of}
@@ -28,7 +28,7 @@ use Rattle.cdl_schedule.proofs.Building.{by_lt, rows_pass, rows_add, rows_next, 
 use Rattle.cdl_schedule.proofs.Loops.{has_inside, direct_are, precedes_inside}
 
 -- kinds
-pub late_only : (k : Kind) → (k ≡ LogicalPre → ⊥) → (k ≡ DiscreteUnitDelay → ⊥) → (ports k).direct ≡ true
+pub late_only : (k : Kind) → (k ≡ LogicalPre → ⊥) → (k ≡ DiscreteUnitDelay → ⊥) → (row k).direct ≡ true
 late_only LogicalPre f g = absurd (f refl)
 late_only DiscreteUnitDelay f g = absurd (g refl)
 late_only k f g = refl

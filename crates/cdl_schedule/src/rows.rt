@@ -1,6 +1,6 @@
 // What determines what in a net, in rows: those of the elements, and behind them those of the instances.
 ghost use Rattle.std.specs.Prelude.{◌≡◌, ◌+◌, ◌-◌, ◌<◌, ◌≤◌, ◌&&◌, ℕ, length, IfOk, OnOk, get_or};
-ghost use Rattle.cdl_kinds.specs.Ports.{ports};
+ghost use Rattle.cdl_kinds.specs.Table.{row};
 ghost use Rattle.cdl_connect.specs.Faults.{IsChecked};
 ghost use Rattle.cdl_connect.specs.Nets.{is_block, network_of};
 ghost use Rattle.cdl_schedule.specs.inner.Rows.{Precedes, AreRows, AreSources, vertex_count, cause_of, is_direct_body, added};
@@ -45,7 +45,7 @@ fn sources(alloc: Global, net: &Net) -> Result<Vec<usize>, AllocError>
 
 // All kinds but the two delays take their inputs at once.
 fn is_direct_kind(kind: Kind) -> bool
-    ensures { result ≡ (ports kind).direct }
+    ensures { result ≡ (row kind).direct }
 {
     !matches!(kind, Kind::LogicalPre | Kind::DiscreteUnitDelay)
 }

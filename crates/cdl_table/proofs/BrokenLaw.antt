@@ -95,12 +95,12 @@ record BadCell (column here : ℕ) (cs : List Column) (fs : List (List ℕ)) : T
   column_is : here ≡ column + place
   first : IsFirstBad cs fs place
 
-good-more : (c : Column) (cs : List Column) (f : List ℕ) (fs : List (List ℕ)) (w : ℤ) (i : ℕ) → word_of c.kind f ≡ Some w → ((k : ℕ) → k < i → (v : ℤ) × (word_at cs fs k ≡ Some v))
+good-more : (c : Column) (cs : List Column) (f : List ℕ) (fs : List (List ℕ)) (w : ℤ) (i : ℕ) → word_of c.value_type f ≡ Some w → ((k : ℕ) → k < i → (v : ℤ) × (word_at cs fs k ≡ Some v))
     → (k : ℕ) → k < suc i → (v : ℤ) × (word_at (c ∷ cs) (f ∷ fs) k ≡ Some v)
 good-more c cs f fs w i e h zero p = (w, e)
 good-more c cs f fs w i e h (suc k) p = h k (omega (arith, p))
 
-bad-more : (column here : ℕ) (c : Column) (cs : List Column) (f : List ℕ) (fs : List (List ℕ)) (w : ℤ) → word_of c.kind f ≡ Some w → BadCell (column + 1) here cs fs
+bad-more : (column here : ℕ) (c : Column) (cs : List Column) (f : List ℕ) (fs : List (List ℕ)) (w : ℤ) → word_of c.value_type f ≡ Some w → BadCell (column + 1) here cs fs
     → BadCell column here (c ∷ cs) (f ∷ fs)
 bad-more column here c cs f fs w e b = record {
   place = suc b.place;
@@ -112,12 +112,12 @@ cells-bad : (column here : ℕ) (done : List ℤ) (cs : List Column) (fs : List 
 cells-bad column here done [] fs n e = absurd (cc e)
 cells-bad column here done (c ∷ cs) [] n e = absurd (omega (arith, n))
 cells-bad column here done (c ∷ cs) (f ∷ fs) n e =
-    let go : (o : Option ℤ) → word_of c.kind f ≡ o → word_or (λ w. words_from (column + 1) (done ++ w ∷ []) cs fs) column o ≡ Err here → BadCell column here (c ∷ cs) (f ∷ fs) =
-    λ o. elim o as (λ o. word_of c.kind f ≡ o → word_or (λ w. words_from (column + 1) (done ++ w ∷ []) cs fs) column o ≡ Err here → BadCell column here (c ∷ cs) (f ∷ fs)) [
+    let go : (o : Option ℤ) → word_of c.value_type f ≡ o → word_or (λ w. words_from (column + 1) (done ++ w ∷ []) cs fs) column o ≡ Err here → BadCell column here (c ∷ cs) (f ∷ fs) =
+    λ o. elim o as (λ o. word_of c.value_type f ≡ o → word_or (λ w. words_from (column + 1) (done ++ w ∷ []) cs fs) column o ≡ Err here → BadCell column here (c ∷ cs) (f ∷ fs)) [
       | None ↦ λ b h. let same : column ≡ here = cc h in record { place = 0; column_is = omega (arith, same); first = record { within = omega arith; bad = b; good = λ k p. absurd (omega (arith, p)) } }
       | Some w ↦ λ b h. bad-more column here c cs f fs w b (cells-bad (column + 1) here (done ++ w ∷ []) cs fs (omega (arith, n)) h)
     ]
-    in go (word_of c.kind f) refl e
+    in go (word_of c.value_type f) refl e
 
 cells-found : (column : ℕ) (done : List ℤ) (cs : List Column) (fs : List (List ℕ)) (i : ℕ) → i < length cs → word_at cs fs i ≡ None
     → ((k : ℕ) → k < i → (v : ℤ) × (word_at cs fs k ≡ Some v)) → words_from column done cs fs ≡ Err (column + i)
@@ -125,11 +125,11 @@ cells-found column done [] fs i p b g = absurd (omega (arith, p))
 cells-found column done (c ∷ cs) [] zero p b g = ap Err (omega arith)
 cells-found column done (c ∷ cs) [] (suc i) p b g = let first = g 0 (omega arith) in let wrong = first.1 in absurd (cc wrong)
 cells-found column done (c ∷ cs) (f ∷ fs) zero p b g =
-    let none : word_of c.kind f ≡ None = b in
+    let none : word_of c.value_type f ≡ None = b in
     rw none (ap Err (omega arith))
 cells-found column done (c ∷ cs) (f ∷ fs) (suc i) p b g =
     let first = g 0 (omega arith) in
-    let some : word_of c.kind f ≡ Some first.0 = first.1 in
+    let some : word_of c.value_type f ≡ Some first.0 = first.1 in
     rw some (cells-found (column + 1) (done ++ first.0 ∷ []) cs fs i (omega (arith, p)) b (λ k q. g (suc k) (omega (arith, q))) ∙ ap Err (omega arith))
 
 -- a record

@@ -103,25 +103,25 @@ drop-column columns i x h at = rw (sym at) at (drop-cons columns i x h)
 
 -- a field without a word, and one more word
 pub words-stop : (column : ℕ) (done : List ℤ) (columns : List Column) (fs : List (List ℕ)) (i : ℕ) (x : Column) → i < length columns → x ≡ get_or columns i x
-    → option_and_then (word_of x.kind) (field_at fs (i + 1)) ≡ None → words_from column done (drop i columns) (drop (i + 1) fs) ≡ Err column
+    → option_and_then (word_of x.value_type) (field_at fs (i + 1)) ≡ None → words_from column done (drop i columns) (drop (i + 1) fs) ≡ Err column
 words-stop column done columns fs i x h at is =
-    let go : (g : Option (List ℕ)) → field_at fs (i + 1) ≡ g → option_and_then (word_of x.kind) g ≡ None → words_from column done (drop i columns) (drop (i + 1) fs) ≡ Err column =
-    λ g. elim g as (λ g. field_at fs (i + 1) ≡ g → option_and_then (word_of x.kind) g ≡ None → words_from column done (drop i columns) (drop (i + 1) fs) ≡ Err column) [
+    let go : (g : Option (List ℕ)) → field_at fs (i + 1) ≡ g → option_and_then (word_of x.value_type) g ≡ None → words_from column done (drop i columns) (drop (i + 1) fs) ≡ Err column =
+    λ g. elim g as (λ g. field_at fs (i + 1) ≡ g → option_and_then (word_of x.value_type) g ≡ None → words_from column done (drop i columns) (drop (i + 1) fs) ≡ Err column) [
       | None ↦ λ e b. rw (drop-column columns i x h at, drop-no_field fs (i + 1) e) refl
-      | Some f ↦ λ e b. let none : word_of x.kind f ≡ None = b in rw (drop-column columns i x h at, drop-field fs (i + 1) f e, none) refl
+      | Some f ↦ λ e b. let none : word_of x.value_type f ≡ None = b in rw (drop-column columns i x h at, drop-field fs (i + 1) f e, none) refl
     ]
     in go (field_at fs (i + 1)) refl is
 
 pub words-more : (column : ℕ) (done : List ℤ) (columns : List Column) (fs : List (List ℕ)) (i : ℕ) (x : Column) (w : ℤ) → i < length columns → x ≡ get_or columns i x
-    → option_and_then (word_of x.kind) (field_at fs (i + 1)) ≡ Some w
+    → option_and_then (word_of x.value_type) (field_at fs (i + 1)) ≡ Some w
     → words_from column done (drop i columns) (drop (i + 1) fs) ≡ words_from (column + 1) (done ++ w ∷ []) (drop (i + 1) columns) (drop (i + 1 + 1) fs)
 words-more column done columns fs i x w h at is =
-    let go : (g : Option (List ℕ)) → field_at fs (i + 1) ≡ g → option_and_then (word_of x.kind) g ≡ Some w
+    let go : (g : Option (List ℕ)) → field_at fs (i + 1) ≡ g → option_and_then (word_of x.value_type) g ≡ Some w
     → words_from column done (drop i columns) (drop (i + 1) fs) ≡ words_from (column + 1) (done ++ w ∷ []) (drop (i + 1) columns) (drop (i + 1 + 1) fs) =
-    λ g. elim g as (λ g. field_at fs (i + 1) ≡ g → option_and_then (word_of x.kind) g ≡ Some w
+    λ g. elim g as (λ g. field_at fs (i + 1) ≡ g → option_and_then (word_of x.value_type) g ≡ Some w
     → words_from column done (drop i columns) (drop (i + 1) fs) ≡ words_from (column + 1) (done ++ w ∷ []) (drop (i + 1) columns) (drop (i + 1 + 1) fs)) [
       | None ↦ λ e b. absurd (cc b)
-      | Some f ↦ λ e b. let some : word_of x.kind f ≡ Some w = b in rw (drop-column columns i x h at, drop-field fs (i + 1) f e, some, add-one i, add-one (suc i)) refl
+      | Some f ↦ λ e b. let some : word_of x.value_type f ≡ Some w = b in rw (drop-column columns i x h at, drop-field fs (i + 1) f e, some, add-one i, add-one (suc i)) refl
     ]
     in go (field_at fs (i + 1)) refl is
 

@@ -35,7 +35,7 @@ words-complete column done [] (f ∷ fs) ws h = absurd h
 words-complete column done (c ∷ cs) [] ws h = absurd h
 words-complete column done (c ∷ cs) (f ∷ fs) [] h = absurd h
 words-complete column done (c ∷ cs) (f ∷ fs) (w ∷ ws) h =
-    let here : word_of c.kind f ≡ Some w = h.0 in
+    let here : word_of c.value_type f ≡ Some w = h.0 in
     rw here (words-complete (column + 1) (done ++ w ∷ []) cs fs ws h.1 ∙ ap Ok (append_assoc done (w ∷ []) ws))
 
 pub row-complete : (columns : List Column) (last : ℤ) (r : List (List ℕ)) (t : TableRow) → IsRow columns r t → last <ℤ t.time → row_of columns last r ≡ Ok t
@@ -91,7 +91,7 @@ record Words (done all : List ℤ) (cs : List Column) (fs : List (List ℕ)) : T
   all_is : all ≡ done ++ ws
   words : AreWords cs fs ws
 
-more-words : (done all : List ℤ) (w : ℤ) (c : Column) (cs : List Column) (f : List ℕ) (fs : List (List ℕ)) → word_of c.kind f ≡ Some w → Words (done ++ w ∷ []) all cs fs
+more-words : (done all : List ℤ) (w : ℤ) (c : Column) (cs : List Column) (f : List ℕ) (fs : List (List ℕ)) → word_of c.value_type f ≡ Some w → Words (done ++ w ∷ []) all cs fs
     → Words done all (c ∷ cs) (f ∷ fs)
 more-words done all w c cs f fs e h = record { ws = w ∷ h.ws; all_is = h.all_is ∙ append_assoc done (w ∷ []) h.ws; words = (e, h.words) }
 
@@ -100,12 +100,12 @@ words-sound column done all [] [] n e = record { ws = []; all_is = let same : do
 words-sound column done all [] (f ∷ fs) n e = absurd (omega (arith, n))
 words-sound column done all (c ∷ cs) [] n e = absurd (cc e)
 words-sound column done all (c ∷ cs) (f ∷ fs) n e =
-    let go : (o : Option ℤ) → word_of c.kind f ≡ o → word_or (λ w. words_from (column + 1) (done ++ w ∷ []) cs fs) column o ≡ Ok all → Words done all (c ∷ cs) (f ∷ fs) =
-    λ o. elim o as (λ o. word_of c.kind f ≡ o → word_or (λ w. words_from (column + 1) (done ++ w ∷ []) cs fs) column o ≡ Ok all → Words done all (c ∷ cs) (f ∷ fs)) [
+    let go : (o : Option ℤ) → word_of c.value_type f ≡ o → word_or (λ w. words_from (column + 1) (done ++ w ∷ []) cs fs) column o ≡ Ok all → Words done all (c ∷ cs) (f ∷ fs) =
+    λ o. elim o as (λ o. word_of c.value_type f ≡ o → word_or (λ w. words_from (column + 1) (done ++ w ∷ []) cs fs) column o ≡ Ok all → Words done all (c ∷ cs) (f ∷ fs)) [
       | None ↦ λ b h. absurd (cc h)
       | Some w ↦ λ b h. more-words done all w c cs f fs b (words-sound (column + 1) (done ++ w ∷ []) all cs fs (omega (arith, n)) h)
     ]
-    in go (word_of c.kind f) refl e
+    in go (word_of c.value_type f) refl e
 
 with_time-sound : (u : ℤ) (x : Result (List ℤ) ℕ) (t : TableRow) → with_time u x ≡ Ok t → (ws : List ℤ) × (x ≡ Ok ws) × (t ≡ row_with u ws)
 with_time-sound u (Ok ws) t e = let same : row_with u ws ≡ t = cc e in (ws, refl, sym same)

@@ -3,7 +3,7 @@ use Rattle.std.proofs.Common.{◌≡◌, ◌+◌, ◌-◌, ◌<◌, ℕ, ℤ, su
 use Rattle.std.specs.Prelude.{pos}
 use Rattle.std.proofs.lemmas.List.{length-drop}
 use Rattle.std.proofs.Math.Seq.{drop-cons}
-use Rattle.cdl_kinds.specs.History.{IsValue}
+use Rattle.cdl_values.specs.History.{IsValue}
 use Rattle.cdl_table.specs.declared.column.Column.{Column}
 use Rattle.cdl_table.specs.Trace.{word_text, word_texts}
 use Rattle.cdl_table.specs.Values.{AreValues}
@@ -11,9 +11,9 @@ use Rattle.cdl_table.proofs.TableFacts.{drop-column}
 
 -- the columns and words from a place on, by the column and the word there
 pub record Here (columns : List Column) (words : List ℤ) (i : ℕ) (c : Column) (w : ℤ) : Type 0 where
-  pub value : IsValue c.kind w
+  pub value : IsValue c.value_type w
   pub left : AreValues (drop (i + 1) columns) (drop (i + 1) words)
-  pub texts : word_texts (drop i columns) (drop i words) ≡ word_text c.kind w ∷ word_texts (drop (i + 1) columns) (drop (i + 1) words)
+  pub texts : word_texts (drop i columns) (drop i words) ≡ word_text c.value_type w ∷ word_texts (drop (i + 1) columns) (drop (i + 1) words)
 
 values-many : (columns : List Column) (words : List ℤ) → AreValues columns words → length words ≡ length columns
 values-many [] [] h = refl

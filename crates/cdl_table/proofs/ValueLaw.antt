@@ -11,9 +11,9 @@ use Rattle.cdl_decimal.specs.Near.{InRange, in_range, near}
 use Rattle.cdl_decimal.specs.Spells.{Parts, lower, upper}
 use Rattle.cdl_decimal.specs.Split.{count_of, is_long, judged, parse_of, split}
 use Rattle.cdl_decimal.specs.declared.numeral.DecimalError.TheVariants.{OutOfRange}
-use Rattle.cdl_kinds.specs.History.{IsTime, IsValue}
-use Rattle.cdl_kinds.specs.declared.value.ValueType.{ValueType}
-use Rattle.cdl_kinds.specs.declared.value.ValueType.TheVariants.{Boolean, Integer, Real, Str, Enumeration}
+use Rattle.cdl_values.specs.History.{IsTime, IsValue}
+use Rattle.cdl_values.specs.declared.value.ValueType.{ValueType}
+use Rattle.cdl_values.specs.declared.value.ValueType.TheVariants.{Boolean, Integer, Real, Str, Enumeration}
 use Rattle.cdl_table.specs.declared.column.Column.{Column}
 use Rattle.cdl_source.specs.declared.limits.TheConstants.{LATEST_TIME}
 use Rattle.cdl_table.specs.Cells.{boolean_word, digits_after, integer_word, magnitude_of, negative, number_of, real_word, time_of, up_to, word_of}
@@ -105,7 +105,7 @@ unfolding parse_of
 real-value field w e = judged-is (split field) w e
 
 -- a word that a field's text is read as is a value of the type
-pub word-value : (kind : ValueType) (field : List ℕ) (w : ℤ) → word_of kind field ≡ Some w → IsValue kind w
+pub word-value : (value_type : ValueType) (field : List ℕ) (w : ℤ) → word_of value_type field ≡ Some w → IsValue value_type w
 word-value Boolean field w e = boolean-value field w e
 word-value Integer field w e = integer-value field w e
 word-value Real field w e = real-value field w e
@@ -118,7 +118,7 @@ words-values [] [] (w ∷ ws) h = absurd h
 words-values [] (f ∷ fs) ws h = absurd h
 words-values (c ∷ cs) [] ws h = absurd h
 words-values (c ∷ cs) (f ∷ fs) [] h = absurd h
-words-values (c ∷ cs) (f ∷ fs) (w ∷ ws) h = (word-value c.kind f w h.0, words-values cs fs ws h.1)
+words-values (c ∷ cs) (f ∷ fs) (w ∷ ws) h = (word-value c.value_type f w h.0, words-values cs fs ws h.1)
 
 row-values : (columns : List Column) (fields : List (List ℕ)) (row : TableRow) → IsRow columns fields row → IsTime row.time × AreValues columns row.words
 row-values columns fields row h = (time-value h.first row.time h.time, words-values columns h.cells row.words h.words)

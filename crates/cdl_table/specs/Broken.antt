@@ -14,7 +14,7 @@ use Rattle.cdl_table.specs.TableRow.{TableRow}
 abbrev pub word_at : List Column → List (List ℕ) → ℕ → Option ℤ
 word_at [] cells i = None
 word_at (c ∷ cs) [] i = None
-word_at (c ∷ cs) (f ∷ fs) zero = word_of c.kind f
+word_at (c ∷ cs) (f ∷ fs) zero = word_of c.value_type f
 word_at (c ∷ cs) (f ∷ fs) (suc i) = word_at cs fs i
 
 -- the cell of that number is no value of its column's type, and is the first

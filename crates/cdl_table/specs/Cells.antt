@@ -5,8 +5,8 @@ use Rattle.std.specs.Char.{is_ascii_digit, digit_value}
 use Rattle.std.specs.Str.{bytes_eq}
 use Rattle.cdl_source.specs.declared.limits.TheConstants.{LARGEST_INTEGER, LATEST_TIME}
 use Rattle.cdl_decimal.specs.Split.{parse_of}
-use Rattle.cdl_kinds.specs.declared.value.ValueType.{ValueType}
-use Rattle.cdl_kinds.specs.declared.value.ValueType.TheVariants.{Boolean, Integer, Real, Str, Enumeration}
+use Rattle.cdl_values.specs.declared.value.ValueType.{ValueType}
+use Rattle.cdl_values.specs.declared.value.ValueType.TheVariants.{Boolean, Integer, Real, Str, Enumeration}
 
 -- the number whose decimal digits are those of n and then these, unless one is no digit
 abbrev pub digits_after : ℕ → List ℕ → Option ℕ

@@ -15,7 +15,7 @@ header_of columns = codes "time" ∷ names_of columns
 -- the cells are values of the columns' types, one for each column, and these are their words
 abbrev pub AreWords : List Column → List (List ℕ) → List ℤ → Type 0
 AreWords [] [] [] = Unit {0}
-AreWords (c ∷ cs) (f ∷ fs) (w ∷ ws) = (word_of c.kind f ≡ Some w) × AreWords cs fs ws
+AreWords (c ∷ cs) (f ∷ fs) (w ∷ ws) = (word_of c.value_type f ≡ Some w) × AreWords cs fs ws
 AreWords _ _ _ = ⊥
 
 -- the fields are a row's time and then its values

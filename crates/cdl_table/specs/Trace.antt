@@ -6,9 +6,9 @@ use Rattle.cdl_table.specs.declared.trace.TraceError.TheVariants.{WriteFault, Ou
 use Rattle.std.specs.Fmt.{signed_decimal}
 use Rattle.csv.specs.Writing.{default_writer, row_text}
 use Rattle.cdl_decimal.specs.Canon.{canon}
-use Rattle.cdl_kinds.specs.History.{is_on}
-use Rattle.cdl_kinds.specs.declared.value.ValueType.{ValueType}
-use Rattle.cdl_kinds.specs.declared.value.ValueType.TheVariants.{Boolean, Integer, Real, Str, Enumeration}
+use Rattle.cdl_values.specs.History.{is_on}
+use Rattle.cdl_values.specs.declared.value.ValueType.{ValueType}
+use Rattle.cdl_values.specs.declared.value.ValueType.TheVariants.{Boolean, Integer, Real, Str, Enumeration}
 use Rattle.cdl_table.specs.declared.column.Column.{Column}
 use Rattle.cdl_table.specs.IsTable.{header_of}
 
@@ -28,7 +28,7 @@ word_text (Enumeration c) w = []
 abbrev pub word_texts : List Column → List ℤ → List (List ℕ)
 word_texts [] ws = []
 word_texts (c ∷ cs) [] = []
-word_texts (c ∷ cs) (w ∷ ws) = word_text c.kind w ∷ word_texts cs ws
+word_texts (c ∷ cs) (w ∷ ws) = word_text c.value_type w ∷ word_texts cs ws
 
 -- the first record: `time` and the names of the outputs
 abbrev pub header_text : List Column → List ℕ

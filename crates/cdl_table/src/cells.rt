@@ -4,8 +4,8 @@ ghost use Rattle.csv.specs.Records.{field_at, fields_of};
 ghost use Rattle.cdl_table.specs.Cells.{boolean_word, integer_word, number_of, real_word, time_of, word_of};
 
 use cdl_decimal::parse;
-use cdl_kinds::ValueType;
 use cdl_source::{LARGEST_INTEGER, LATEST_TIME};
+use cdl_values::ValueType;
 use csv::ByteRecord;
 
 // The most digits of the text of a time, and of the magnitude of an Integer.
@@ -86,10 +86,10 @@ fn read_real(text: &[u8]) -> Option<i64>
 }
 
 // The word of a field's text, as a value of this type.
-fn read_word(kind: ValueType, text: &[u8]) -> Option<i64>
-    ensures { result ≡ word_of kind text.now }
+fn read_word(value_type: ValueType, text: &[u8]) -> Option<i64>
+    ensures { result ≡ word_of value_type text.now }
 {
-    match kind {
+    match value_type {
         ValueType::Boolean => read_boolean(text),
         ValueType::Integer => read_integer(text),
         ValueType::Real => read_real(text),
@@ -99,11 +99,11 @@ fn read_word(kind: ValueType, text: &[u8]) -> Option<i64>
 }
 
 // The word of the field at this place of a record, as a value of this type.
-pub(crate) fn word_at(csv_record: &ByteRecord, at: usize, kind: ValueType) -> Option<i64>
-    ensures { result ≡ option_and_then (word_of kind) (field_at (fields_of csv_record.now) at) }
+pub(crate) fn word_at(csv_record: &ByteRecord, at: usize, value_type: ValueType) -> Option<i64>
+    ensures { result ≡ option_and_then (word_of value_type) (field_at (fields_of csv_record.now) at) }
 {
     match csv_record.get(at) {
-        Some(text) => read_word(kind, text),
+        Some(text) => read_word(value_type, text),
         None => None,
     }
 }

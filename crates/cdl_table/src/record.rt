@@ -22,7 +22,7 @@ fn read_words(
     ensures err { IfErr result (NamesIn number (with_time (pos 0) (words_from 2 [] inputs.now (drop 1 (fields_of csv_record.now))))) }
 {
     for (i, input) in inputs.iter().enumerate() {
-        let Some(word) = word_at(csv_record, i + 1, input.kind) else {
+        let Some(word) = word_at(csv_record, i + 1, input.value_type) else {
             return Err(TableFault::Rule {
                 rule: NOT_A_VALUE,
                 row: number,

@@ -4,7 +4,7 @@ ghost use Rattle.csv.specs.Records.{fields_of};
 ghost use Rattle.csv.specs.Writing.{comma, default_writer, field_text, fields_text, row_text};
 ghost use Rattle.cdl_decimal.specs.Canon.{canon};
 ghost use Rattle.cdl_decimal.specs.Near.{InRange};
-ghost use Rattle.cdl_kinds.specs.History.{IsValue};
+ghost use Rattle.cdl_values.specs.History.{IsValue};
 ghost use Rattle.cdl_source.specs.Causes.{Rose};
 ghost use Rattle.cdl_source.specs.Outside.{written_after};
 ghost use Rattle.cdl_source.specs.Whole.{WritesSome};
@@ -14,8 +14,8 @@ ghost use Rattle.cdl_table.specs.Values.{AreValues};
 
 use crate::Column;
 use cdl_decimal::{Real, text};
-use cdl_kinds::ValueType;
 use cdl_source::{Failed, List, OutOfMemory, Sink, Text, write_whole};
+use cdl_values::ValueType;
 use csv::{ByteRecord, WriterBuilder};
 use itoa::Buffer;
 use std::alloc::{AllocError, Global};
@@ -169,7 +169,7 @@ fn push_words(
     ensures { OnOk result (buffer.new.items ≡ buffer.old.items ++ fields_text default_writer (word_texts columns.now words.now)) }
 {
     for (i, column) in columns.iter().enumerate() {
-        push_word(alloc, buffer, column.kind, words[i])?;
+        push_word(alloc, buffer, column.value_type, words[i])?;
     }
     Ok(())
 }
@@ -178,14 +178,14 @@ fn push_words(
 fn push_word(
     alloc: Global,
     buffer: &mut Vec<u8>,
-    kind: ValueType,
+    value_type: ValueType,
     word: i64,
 ) -> Result<(), OutOfMemory>
-    requires { IsValue kind word }
-    ensures { OnOk result (buffer.new.items ≡ buffer.old.items ++ (comma ∷ field_text default_writer (word_text kind word))) }
+    requires { IsValue value_type word }
+    ensures { OnOk result (buffer.new.items ≡ buffer.old.items ++ (comma ∷ field_text default_writer (word_text value_type word))) }
 {
     buffer.extend_from_slice(b",")?;
-    match kind {
+    match value_type {
         ValueType::Boolean => {
             buffer.extend_from_slice(boolean_bytes(word == 1))?;
             Ok(())

@@ -4,11 +4,12 @@ ghost use Rattle.std.specs.Prelude.{◌<◌, length};
 ghost use Rattle.cdl_scopes.specs.Classes.{declared};
 
 use cdl_classes::{ClassFault, ClassId, ClassTable, Found, ValueFound};
-use cdl_kinds::{ValueType, find};
+use cdl_kinds::find;
 use cdl_lex::lex;
 use cdl_parse::parse;
 use cdl_source::{List, Place, Span, Text};
 use cdl_tree::{FileTree, Ident, Name};
+use cdl_values::ValueType;
 use std::alloc::Global;
 use std::test::Fail;
 
@@ -223,11 +224,11 @@ fn wanted_class(word: &str) -> Result<Option<Found>, Fail> {
         "Real" => Ok(Some(Found::Scalar(ValueType::Real))),
         "String" => Ok(Some(Found::Scalar(ValueType::Str))),
         "RealInput" => Ok(Some(Found::Connector {
-            kind: ValueType::Real,
+            value_type: ValueType::Real,
             input: true,
         })),
         "IntegerOutput" => Ok(Some(Found::Connector {
-            kind: ValueType::Integer,
+            value_type: ValueType::Integer,
             input: false,
         })),
         _ => Ok(Some(kind_or_class(word)?)),

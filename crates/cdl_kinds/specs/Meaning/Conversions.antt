@@ -1,7 +1,7 @@
 -- What constants, conversions and replicators mean.
 use Rattle.std.specs.Prelude.{ℕ, ℤ, pos, ◌*ℤ◌, cond, [], ◌∷◌, Some, replicate}
 use Rattle.cdl_decimal.specs.Counts.{real_to_integer}
-use Rattle.cdl_kinds.specs.History.{Meaning, word, is_on, one}
+use Rattle.cdl_values.specs.History.{Meaning, word, is_on, one}
 
 abbrev pub constant : ℤ → Meaning
 constant k h now x = Some (k ∷ [])

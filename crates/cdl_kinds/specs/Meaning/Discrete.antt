@@ -3,8 +3,8 @@ use Rattle.std.specs.Prelude.{ℕ, ℤ, pos, ◌*ℤ◌, Bool, true, cond, List,
 use Rattle.std.specs.Int.{int_div_euclid}
 use Rattle.std.specs.Int.RustNames.{int_lt}
 use Rattle.cdl_decimal.specs.Counts.{real_mean}
-use Rattle.cdl_kinds.specs.History.{History, Meaning, tick, word, one, rises}
-use Rattle.cdl_kinds.specs.Meaning.Reals.{greatest}
+use Rattle.cdl_values.specs.History.{History, Meaning, tick, word, one, rises}
+use Rattle.cdl_values.specs.Extremes.{greatest}
 
 -- the number of the sample interval in which a time lies, rounded down
 abbrev pub interval : ℤ → ℤ → ℤ

@@ -1,6 +1,6 @@
 -- What blocks mean that look at Booleans and at those before.
 use Rattle.std.specs.Prelude.{Bool, true, false, cond, not, ◌&&◌, [], ◌∷◌, Some}
-use Rattle.cdl_kinds.specs.History.{History, Meaning, tick, word, bit, is_on, flag, before, starts}
+use Rattle.cdl_values.specs.History.{History, Meaning, tick, word, bit, is_on, flag, before, starts}
 use Rattle.cdl_kinds.specs.Meaning.Gates.{just_one}
 
 abbrev pub is_edge : Bool → Bool → Bool

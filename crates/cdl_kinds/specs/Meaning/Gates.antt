@@ -1,7 +1,7 @@
 -- What gates and switches mean: the outputs rest on the inputs of the same tick alone.
 use Rattle.std.specs.Prelude.{Bool, cond, not, ◌&&◌, ◌||◌, [], ◌∷◌, Some}
 use Rattle.std.specs.List.{list_all, list_any}
-use Rattle.cdl_kinds.specs.History.{Meaning, word, is_on, flag}
+use Rattle.cdl_values.specs.History.{Meaning, word, is_on, flag}
 
 abbrev pub both : Bool → Bool → Bool
 both a b = a && b

@@ -3,7 +3,7 @@ use Rattle.std.specs.Prelude.{ℤ, pos, ◌+ℤ◌, ◌-ℤ◌, ◌*ℤ◌, unsi
 use Rattle.std.specs.Int.RustNames.{int_le, int_lt}
 use Rattle.std.specs.Ordering.{int_eq}
 use Rattle.cdl_decimal.specs.Counts.{dot}
-use Rattle.cdl_kinds.specs.History.{History, Meaning, tick, word, bit, flag, integer, before, rises}
+use Rattle.cdl_values.specs.History.{History, Meaning, tick, word, bit, flag, integer, before, rises}
 
 abbrev pub magnitude : ℤ → ℤ
 magnitude a = pos (unsigned_abs a)
@@ -16,12 +16,6 @@ difference_of a b = a -ℤ b
 
 abbrev pub product_of : ℤ → ℤ → ℤ
 product_of a b = a *ℤ b
-
-abbrev pub greater_of : ℤ → ℤ → ℤ
-greater_of a b = cond (int_le a b) b a
-
-abbrev pub lesser_of : ℤ → ℤ → ℤ
-lesser_of a b = cond (int_le a b) a b
 
 -- a function of one Integer, and of two
 abbrev pub integer_of_one : (ℤ → ℤ) → Meaning

@@ -2,8 +2,9 @@
 use Rattle.std.specs.Prelude.{ℤ, pos, ◌+ℤ◌, ◌-ℤ◌, Bool, cond, List, [], ◌∷◌, Option, Some}
 use Rattle.std.specs.Int.RustNames.{int_le, int_lt}
 use Rattle.cdl_decimal.specs.Counts.{real_add, real_mul, real_line, real_weighted_sum, real_mean}
-use Rattle.cdl_kinds.specs.History.{History, Meaning, word, flag, one}
-use Rattle.cdl_kinds.specs.Meaning.Integers.{magnitude, greater_of, lesser_of}
+use Rattle.cdl_values.specs.History.{History, Meaning, word, flag, one}
+use Rattle.cdl_kinds.specs.Meaning.Integers.{magnitude}
+use Rattle.cdl_values.specs.Extremes.{greater_of, lesser_of}
 
 abbrev pub absolute : ℤ → Option ℤ
 absolute a = Some (magnitude a)
@@ -32,18 +33,6 @@ average h now x = one (real_mean (word x 0 ∷ word x 1 ∷ []))
 
 abbrev pub real_multi_sum : List ℤ → Meaning
 real_multi_sum k h now x = one (real_weighted_sum k x)
-
--- the greatest of these, of which there is at least one
-abbrev pub greatest : List ℤ → ℤ
-greatest [] = pos 0
-greatest (a ∷ []) = a
-greatest (a ∷ b ∷ more) = greater_of a (greatest (b ∷ more))
-
--- the least of these
-abbrev pub least : List ℤ → ℤ
-least [] = pos 0
-least (a ∷ []) = a
-least (a ∷ b ∷ more) = lesser_of a (least (b ∷ more))
 
 abbrev pub extreme : (List ℤ → ℤ) → Meaning
 extreme f h now x = Some (f x ∷ [])

@@ -2,7 +2,7 @@
 use Rattle.std.specs.Prelude.{ℤ, pos, ◌+ℤ◌, ◌-ℤ◌, ◌*ℤ◌, Bool, true, false, cond, not, ◌&&◌, ◌||◌, List, [], ◌∷◌, Option, Some, None}
 use Rattle.std.specs.Int.{int_rem_euclid}
 use Rattle.std.specs.Int.RustNames.{int_le, int_lt}
-use Rattle.cdl_kinds.specs.History.{History, Meaning, tick, word, bit, is_on, flag, rises}
+use Rattle.cdl_values.specs.History.{History, Meaning, tick, word, bit, is_on, flag, rises}
 
 -- from one time to a later one, in millionths of a second
 abbrev pub elapsed : ℤ → ℤ → ℤ
@@ -48,13 +48,13 @@ always_on [] = true
 always_on (t ∷ h) = is_on (word t.ins 0) && always_on h
 
 -- a run that began at least the delay ago
-abbrev pub is_long : ℤ → ℤ → Option ℤ → Bool
-is_long delay now None = false
-is_long delay now (Some begin) = int_le delay (elapsed begin now)
+abbrev pub has_lasted : ℤ → ℤ → Option ℤ → Bool
+has_lasted delay now None = false
+has_lasted delay now (Some begin) = int_le delay (elapsed begin now)
 
 -- the run of true u that ends at the latest tick, which is now, began at least the delay ago, or at the first tick and there is no delay on init
 abbrev pub delayed : ℤ → Bool → ℤ → History → Bool
-delayed delay on_init now h = is_long delay now (began h) || (always_on h && not on_init)
+delayed delay on_init now h = has_lasted delay now (began h) || (always_on h && not on_init)
 
 -- h and this tick
 abbrev pub true_delay : ℤ → Bool → Meaning

@@ -3,7 +3,7 @@ use Rattle.std.specs.Prelude.{ℕ, ◌+◌, ◌<◌, ◌≤◌, ◌≡◌, ◌�
 use Rattle.cdl_network.specs.Dependence.{Origin, Row, From, Out, HasOrigin, direct_of}
 use Rattle.cdl_network.specs.Lists.{In, has_some}
 use Rattle.cdl_network.specs.Rules.{sink_of, source_of}
-use Rattle.cdl_kinds.specs.Ports.{ports}
+use Rattle.cdl_kinds.specs.Table.{row}
 use Rattle.cdl_connect.specs.declared.net.Net.{Net}
 use Rattle.cdl_connect.specs.declared.net.RawWire.{RawWire}
 use Rattle.cdl_connect.specs.declared.net.Body.{Body}
@@ -63,7 +63,7 @@ cause_of n sources x =
 -- the inputs of the block are direct
 abbrev pub is_direct_body : Body → Bool
 is_direct_body Composite = false
-is_direct_body (Elementary k p) = (ports k).direct
+is_direct_body (Elementary k p) = (row k).direct
 
 abbrev pub added : Bool → List ℕ → ℕ → List ℕ
 added wanted xs x = cond wanted (xs ++ x ∷ []) xs

@@ -19,7 +19,7 @@ word_or more column (Some w) = more w
 abbrev pub words_from : ℕ → List ℤ → List Column → List (List ℕ) → Result (List ℤ) ℕ
 words_from column done [] fields = Ok done
 words_from column done (c ∷ cs) [] = Err column
-words_from column done (c ∷ cs) (f ∷ fs) = word_or (λ w. words_from (column + 1) (done ++ w ∷ []) cs fs) column (word_of c.kind f)
+words_from column done (c ∷ cs) (f ∷ fs) = word_or (λ w. words_from (column + 1) (done ++ w ∷ []) cs fs) column (word_of c.value_type f)
 
 abbrev pub with_time : ℤ → Result (List ℤ) ℕ → Result TableRow (ℕ × ℕ)
 with_time t (Ok words) = Ok (row_with t words)

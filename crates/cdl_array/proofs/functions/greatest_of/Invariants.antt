@@ -1,5 +1,5 @@
 use Rattle.std.proofs.Common.{◌≡◌, ◌∷◌, drop}
-use Rattle.cdl_kinds.specs.Meaning.Reals.{greatest}
+use Rattle.cdl_values.specs.Extremes.{greatest}
 use Rattle.cdl_array.specs.Functions.{counts_in}
 use Rattle.cdl_array.proofs.functions.greatest_of.Given as goal
 

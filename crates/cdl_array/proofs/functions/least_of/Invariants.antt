@@ -1,5 +1,5 @@
 use Rattle.std.proofs.Common.{◌≡◌, ◌∷◌, drop}
-use Rattle.cdl_kinds.specs.Meaning.Reals.{least}
+use Rattle.cdl_values.specs.Extremes.{least}
 use Rattle.cdl_array.specs.Functions.{counts_in}
 use Rattle.cdl_array.proofs.functions.least_of.Given as goal
 

@@ -1,7 +1,7 @@
 use Rattle.std.proofs.Common.{◌≡◌, length}
 use Rattle.std.specs.Prelude.{All}
-use Rattle.cdl_kinds.specs.Values.{IsOf}
+use Rattle.cdl_values.specs.Values.{IsOf}
 use Rattle.cdl_block_tests.proofs.values.factors.Given as goal
 
 abbrev pub invariant-loop-i : goal.invariant-loop-i
-invariant-loop-i l = record { each : All (IsOf l.kind) l.values; count : length l.values ≡ l.i }
+invariant-loop-i l = record { each : All (IsOf l.value_type) l.values; count : length l.values ≡ l.i }

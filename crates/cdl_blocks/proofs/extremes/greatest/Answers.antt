@@ -1,8 +1,8 @@
 use Rattle.std.proofs.Common.{◌≡◌, w64, to_z, of_z, arith}
 use Rattle.std.proofs.lemmas.Int.{to_z-of_z}
 use Rattle.cdl_decimal.specs.Near.{InRange}
-use Rattle.cdl_kinds.specs.History.{word}
-use Rattle.cdl_kinds.specs.Meaning.Integers.{greater_of}
+use Rattle.cdl_values.specs.History.{word}
+use Rattle.cdl_values.specs.Extremes.{greater_of}
 use Rattle.cdl_blocks.proofs.ExtremeLaws.{greatest_step, greater_in}
 use Rattle.cdl_blocks.proofs.extremes.greatest.Goals as goal
 

@@ -1,6 +1,6 @@
 use Rattle.std.proofs.Common.{◌≡◌, ◌∷◌, drop}
 use Rattle.cdl_decimal.specs.Near.{InRange}
-use Rattle.cdl_kinds.specs.Meaning.Reals.{greatest}
+use Rattle.cdl_values.specs.Extremes.{greatest}
 use Rattle.cdl_blocks.proofs.extremes.greatest.Given as goal
 
 abbrev pub invariant-loop-i : goal.invariant-loop-i

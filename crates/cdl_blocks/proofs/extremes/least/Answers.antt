@@ -1,8 +1,8 @@
 use Rattle.std.proofs.Common.{◌≡◌, w64, to_z, of_z, arith}
 use Rattle.std.proofs.lemmas.Int.{to_z-of_z}
 use Rattle.cdl_decimal.specs.Near.{InRange}
-use Rattle.cdl_kinds.specs.History.{word}
-use Rattle.cdl_kinds.specs.Meaning.Integers.{lesser_of}
+use Rattle.cdl_values.specs.History.{word}
+use Rattle.cdl_values.specs.Extremes.{lesser_of}
 use Rattle.cdl_blocks.proofs.ExtremeLaws.{least_step, lesser_in}
 use Rattle.cdl_blocks.proofs.extremes.least.Goals as goal
 

@@ -1,6 +1,6 @@
 use Rattle.std.proofs.Common.{◌≡◌, ◌∷◌, drop}
 use Rattle.cdl_decimal.specs.Near.{InRange}
-use Rattle.cdl_kinds.specs.Meaning.Reals.{least}
+use Rattle.cdl_values.specs.Extremes.{least}
 use Rattle.cdl_blocks.proofs.extremes.least.Given as goal
 
 abbrev pub invariant-loop-i : goal.invariant-loop-i

@@ -1,5 +1,5 @@
 use Rattle.std.proofs.Common.{◌≡◌, ℕ, ◌<◌}
-use Rattle.cdl_kinds.specs.History.{word}
+use Rattle.cdl_values.specs.History.{word}
 use Rattle.cdl_blocks.proofs.sources.fill.Given as goal
 
 abbrev pub invariant-loop-word : goal.invariant-loop-word

@@ -1,5 +1,5 @@
 use Rattle.std.proofs.Common.{◌≡◌, map, take}
-use Rattle.cdl_kinds.specs.Values.{real_of}
+use Rattle.cdl_values.specs.Values.{real_of}
 use Rattle.cdl_blocks.proofs.sums.real_factors.Given as goal
 
 abbrev pub invariant-loop-i : goal.invariant-loop-i

@@ -2,8 +2,8 @@ use Rattle.std.proofs.Common.{◌≡◌, ◌<◌, ◌≤◌, w64, to_z, of_z, le
 use Rattle.std.specs.Prelude.{◌+ℤ◌, ◌*ℤ◌, unsigned_abs}
 use Rattle.std.specs.Int.{w128}
 use Rattle.std.proofs.lemmas.Int.{to_z-of_z}
-use Rattle.cdl_kinds.specs.History.{word}
-use Rattle.cdl_kinds.specs.Values.{integer_of}
+use Rattle.cdl_values.specs.History.{word}
+use Rattle.cdl_values.specs.Values.{integer_of}
 use Rattle.cdl_blocks.proofs.SumLaws.{sum_step}
 use Rattle.cdl_blocks.proofs.sums.sum_of_products.Goals as goal
 

@@ -1,6 +1,6 @@
 use Rattle.std.proofs.Common.{◌≡◌, ◌≤◌, ◌*◌, ◌+ℤ◌, unsigned_abs, drop, map}
 use Rattle.cdl_decimal.specs.Counts.{dot}
-use Rattle.cdl_kinds.specs.Values.{integer_of}
+use Rattle.cdl_values.specs.Values.{integer_of}
 use Rattle.cdl_blocks.proofs.sums.sum_of_products.Given as goal
 
 abbrev pub invariant-loop-i : goal.invariant-loop-i

@@ -1,5 +1,5 @@
 use Rattle.std.proofs.Common.{◌≡◌, ◌∙◌, ◌++◌, ◌∷◌, [], sym, ap, true, false, Option, is_some}
-use Rattle.cdl_kinds.specs.declared.value.ValueType.{ValueType}
+use Rattle.cdl_values.specs.declared.value.ValueType.{ValueType}
 use Rattle.cdl_scopes.specs.Classes.{declared}
 use Rattle.cdl_scopes.specs.Lookup.{in_library}
 use Rattle.cdl_classes.specs.Rules.{is_type}

@@ -1,6 +1,6 @@
 use Rattle.std.proofs.Common.{◌≡◌, ◌<◌, ◌+◌, ℕ}
 use Rattle.std.specs.Prelude.{slice_get}
-use Rattle.cdl_kinds.specs.History.{word}
+use Rattle.cdl_values.specs.History.{word}
 use Rattle.cdl_flat.specs.Runs.{word_at}
 use Rattle.cdl_flat.proofs.runner.gather.Given as goal
 

@@ -1,5 +1,6 @@
 use Rattle.std.proofs.Common.{◌≡◌, ◌<◌, drop, map}
-use Rattle.cdl_kinds.specs.Ports.{group_of, ports_count, port_among}
+use Rattle.cdl_kinds.specs.inner.Declared.{group_of}
+use Rattle.cdl_kinds.specs.Ports.{ports_count, port_among}
 use Rattle.cdl_kinds.proofs.port_list.port_among.Given as goal
 
 abbrev pub invariant-loop-group : goal.invariant-loop-group

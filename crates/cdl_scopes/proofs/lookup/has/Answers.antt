@@ -2,7 +2,7 @@ use Rattle.std.proofs.Common.{◌≡◌, ◌∙◌, [], Option, sym, refl, ap}
 use Rattle.std.specs.List.{slice_get}
 use Rattle.std.specs.Prelude.{option_map}
 use Rattle.std.specs.Option.{option_or}
-use Rattle.cdl_kinds.specs.declared.value.ValueType.{ValueType}
+use Rattle.cdl_values.specs.declared.value.ValueType.{ValueType}
 use Rattle.cdl_scopes.specs.Classes.{Full, declared}
 use Rattle.cdl_scopes.specs.Lookup.{a_type, has, member}
 use Rattle.cdl_scopes.proofs.Finding.{top_is}

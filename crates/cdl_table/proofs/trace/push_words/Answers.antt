@@ -17,7 +17,7 @@ loop-i-preserved c =
     record {
       left = h.left;
       texts =
-          field_put _ _ _ (word_text c.index-columns-i.result.kind (get_or c.args.words.now c.loop-i.i (pos 0))) _ _ (c.in_ok-push_word.ensures ∙ ap (λ w. c.loop-i.buffer.items ++ comma ∷ field_text default_writer (word_text c.index-columns-i.result.kind w)) same) h.texts inv.texts;
+          field_put _ _ _ (word_text c.index-columns-i.result.value_type (get_or c.args.words.now c.loop-i.i (pos 0))) _ _ (c.in_ok-push_word.ensures ∙ ap (λ w. c.loop-i.buffer.items ++ comma ∷ field_text default_writer (word_text c.index-columns-i.result.value_type w)) same) h.texts inv.texts;
     }
 
 pub returns : goal.returns

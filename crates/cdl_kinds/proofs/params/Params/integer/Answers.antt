@@ -1,7 +1,7 @@
 use Rattle.std.proofs.Common.{◌≡◌, ◌≤◌, arith}
 use Rattle.std.specs.Prelude.{unsigned_abs}
 use Rattle.std.proofs.lemmas.Int.{ints}
-use Rattle.cdl_kinds.specs.Values.{integer_at}
+use Rattle.cdl_values.specs.Values.{integer_at}
 use Rattle.cdl_kinds.proofs.Integers.{at_small}
 use Rattle.cdl_kinds.proofs.params.Params.integer.Goals as goal
 

@@ -2,8 +2,8 @@
 use Rattle.std.specs.Prelude.{ℕ, ◌-◌, ◌<◌, ◌≤◌, ◌≡◌, ◌⊎◌, ℤ, pos, negsuc, ◌≤ℤ◌, ◌<ℤ◌, Bool, true, false, cond, not, ◌&&◌, List, [], ◌∷◌, Option, Some, None, IsSome, length, unsigned_abs, nat_le, nat_lt, slice_index_or}
 use Rattle.std.specs.Ordering.{int_eq}
 use Rattle.cdl_decimal.specs.Near.{InRange}
-use Rattle.cdl_kinds.specs.declared.value.ValueType.{ValueType}
-use Rattle.cdl_kinds.specs.declared.value.ValueType.TheVariants.{Boolean, Integer, Real}
+use Rattle.cdl_values.specs.declared.value.ValueType.{ValueType}
+use Rattle.cdl_values.specs.declared.value.ValueType.TheVariants.{Boolean, Integer, Real}
 
 -- the word of 'no value'
 abbrev pub no_value : ℤ
@@ -44,46 +44,47 @@ IsValue Real w = InRange w
 IsValue _ w = ⊥
 
 -- what the inputs of a block are, or its outputs: how many, and of each its type and whether the outputs rest on it at once
-pub record Inputs : Type 0 where
+pub record Signature : Type 0 where
   pub count : ℕ
-  pub sort : ℕ → ValueType
+  pub value_type : ℕ → ValueType
   pub direct : ℕ → Bool
 
 -- so many of one type, each direct
-abbrev pub booleans : ℕ → Inputs
-booleans n = record { count = n; sort = λ _. Boolean; direct = λ _. true }
+abbrev pub booleans : ℕ → Signature
+booleans n = record { count = n; value_type = λ _. Boolean; direct = λ _. true }
 
-abbrev pub integers : ℕ → Inputs
-integers n = record { count = n; sort = λ _. Integer; direct = λ _. true }
+abbrev pub integers : ℕ → Signature
+integers n = record { count = n; value_type = λ _. Integer; direct = λ _. true }
 
-abbrev pub reals : ℕ → Inputs
-reals n = record { count = n; sort = λ _. Real; direct = λ _. true }
+abbrev pub reals : ℕ → Signature
+reals n = record { count = n; value_type = λ _. Real; direct = λ _. true }
+
+-- the type of that number, and past the last one the last
+abbrev pub nth_type : List ValueType → ℕ → ValueType
+nth_type [] i = Boolean
+nth_type (t ∷ []) i = t
+nth_type (t ∷ s ∷ ts) i = cond (nat_lt i 1) t (nth_type (s ∷ ts) (i - 1))
 
 -- one of each of these types, in order, each direct
-abbrev pub sort_of : List ValueType → ℕ → ValueType
-sort_of [] i = Boolean
-sort_of (t ∷ []) i = t
-sort_of (t ∷ s ∷ ts) i = cond (nat_lt i 1) t (sort_of (s ∷ ts) (i - 1))
-
-abbrev pub typed : List ValueType → Inputs
-typed ts = record { count = length ts; sort = sort_of ts; direct = λ _. true }
+abbrev pub typed : List ValueType → Signature
+typed ts = record { count = length ts; value_type = nth_type ts; direct = λ _. true }
 
 -- one of this type that is not direct
-abbrev pub later : ValueType → Inputs
-later t = record { count = 1; sort = λ _. t; direct = λ _. false }
+abbrev pub later : ValueType → Signature
+later t = record { count = 1; value_type = λ _. t; direct = λ _. false }
 
 -- each has a value of its type
-pub record AreValues (p : Inputs) (xs : List ℤ) : Type 0 where
+pub record AreValues (p : Signature) (xs : List ℤ) : Type 0 where
   pub size : length xs ≡ p.count
-  pub each : (i : ℕ) → i < p.count → IsValue (p.sort i) (word xs i)
+  pub each : (i : ℕ) → i < p.count → IsValue (p.value_type i) (word xs i)
 
 -- each direct input has a value of its type
-pub record AreReady (p : Inputs) (xs : List ℤ) : Type 0 where
+pub record AreReady (p : Signature) (xs : List ℤ) : Type 0 where
   pub size : length xs ≡ p.count
-  pub each : (i : ℕ) → i < p.count → p.direct i ≡ true → IsValue (p.sort i) (word xs i)
+  pub each : (i : ℕ) → i < p.count → p.direct i ≡ true → IsValue (p.value_type i) (word xs i)
 
 -- the direct inputs are the same
-pub record SameDirect (p : Inputs) (x y : List ℤ) : Type 0 where
+pub record SameDirect (p : Signature) (x y : List ℤ) : Type 0 where
   pub size : length x ≡ length y
   pub count : length x ≡ p.count
   pub each : (i : ℕ) → i < p.count → p.direct i ≡ true → word x i ≡ word y i
@@ -103,12 +104,12 @@ last_time [] = negsuc 0
 last_time (t ∷ h) = t.time
 
 -- times rise, inputs are values, and at each tick the meaning has a value
-abbrev pub HistoryBy : Inputs → (History → ℤ → List ℤ → Option (List ℤ)) → History → Type 0
+abbrev pub HistoryBy : Signature → (History → ℤ → List ℤ → Option (List ℤ)) → History → Type 0
 HistoryBy p m [] = Unit {0}
 HistoryBy p m (t ∷ h) = IsTime t.time × IsLater t.time h × AreValues p t.ins × IsSome (m h t.time t.ins) × HistoryBy p m h
 
 -- a history of a block whose inputs and meaning are these
-pub record IsHistory (p : Inputs) (m : History → ℤ → List ℤ → Option (List ℤ)) (h : History) : Type 0 where
+pub record IsHistory (p : Signature) (m : History → ℤ → List ℤ → Option (List ℤ)) (h : History) : Type 0 where
   pub ticks : HistoryBy p m h
 
 -- the word of an input at the latest tick, or this one before any

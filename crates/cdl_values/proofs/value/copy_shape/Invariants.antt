@@ -1,5 +1,5 @@
 use Rattle.std.proofs.Common.{◌≡◌, take}
-use Rattle.cdl_kinds.proofs.value.copy_shape.Given as goal
+use Rattle.cdl_values.proofs.value.copy_shape.Given as goal
 
 abbrev pub invariant-loop-size : goal.invariant-loop-size
 invariant-loop-size l = l.copy ≡ take l.size-index l.shape

@@ -1,11 +1,11 @@
 -- Values, arrays of them, and what stands in a list of arrays.
 use Rattle.std.specs.Prelude.{ℕ, ◌*◌, ◌≤◌, ◌≡◌, ℤ, pos, Bool, false, List, [], ◌∷◌, length, map, unsigned_abs, Option, Some, None, slice_get, All}
 use Rattle.cdl_decimal.specs.Near.{InRange}
-use Rattle.cdl_kinds.specs.declared.value.Array.{Array}
-use Rattle.cdl_kinds.specs.declared.value.Value.{Value}
-use Rattle.cdl_kinds.specs.declared.value.Value.TheVariants.{Boolean, Integer, Real, Str, Enumeration}
-use Rattle.cdl_kinds.specs.declared.value.ValueType.{ValueType}
-use Rattle.cdl_kinds.specs.declared.value.ValueType.TheVariants.{Boolean as BooleanType, Integer as IntegerType, Real as RealType, Str as StrType, Enumeration as EnumerationType}
+use Rattle.cdl_values.specs.declared.value.Array.{Array}
+use Rattle.cdl_values.specs.declared.value.Value.{Value}
+use Rattle.cdl_values.specs.declared.value.Value.TheVariants.{Boolean, Integer, Real, Str, Enumeration}
+use Rattle.cdl_values.specs.declared.value.ValueType.{ValueType}
+use Rattle.cdl_values.specs.declared.value.ValueType.TheVariants.{Boolean as BooleanType, Integer as IntegerType, Real as RealType, Str as StrType, Enumeration as EnumerationType}
 
 -- a value of that type; an Integer has a magnitude of at most 2147483647
 abbrev pub IsOf : ValueType → Value → Type 0
@@ -34,7 +34,7 @@ items_of (n ∷ ns) = n * items_of ns
 pub record IsArray (a : Array) : Type 0 where
   pub sizes : length a.shape ≤ 2
   pub count : length a.items ≡ items_of a.shape
-  pub each : All (IsOf a.kind) a.items
+  pub each : All (IsOf a.value_type) a.items
 
 -- the Boolean, the Integer, the count of the Real; false and 0 at a value of another type, which no clause asks for
 abbrev pub boolean_of : Value → Bool

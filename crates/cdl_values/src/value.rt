@@ -30,7 +30,7 @@ pub enum Value {
 /// Values of one type. The shape has no size at a scalar, else one or two; the items stand row by row.
 #[derive(Debug, Drop)]
 pub struct Array {
-    pub kind: ValueType,
+    pub value_type: ValueType,
     pub shape: List<u32>,
     pub items: List<Value>,
 }
@@ -83,7 +83,7 @@ impl Array {
         let shape = copy_shape(alloc, self.shape.items())?;
         let items = copy_items(alloc, self.items.items())?;
         Ok(Array {
-            kind: self.kind,
+            value_type: self.value_type,
             shape,
             items,
         })

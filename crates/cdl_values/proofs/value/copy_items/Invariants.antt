@@ -1,5 +1,5 @@
 use Rattle.std.proofs.Common.{◌≡◌, take}
-use Rattle.cdl_kinds.proofs.value.copy_items.Given as goal
+use Rattle.cdl_values.proofs.value.copy_items.Given as goal
 
 abbrev pub invariant-loop-item : goal.invariant-loop-item
 invariant-loop-item l = l.copy ≡ take l.item-index l.items

@@ -1,11 +1,14 @@
 //! Words read and written, as the blocks of all kinds need them.
-ghost use Rattle.std.specs.Prelude.{◌≡◌, ℕ, ◌<◌, ℤ, [], ◌∷◌, length, MatchResult, Some, None};
+ghost use Rattle.std.specs.Prelude.{◌≡◌, ℕ, ◌<◌, ℤ, [], ◌∷◌, length, MatchResult, OnErr, Some, None};
 ghost use Rattle.std.specs.List.{list_all, list_any};
 ghost use Rattle.cdl_decimal.specs.Near.{InRange};
-ghost use Rattle.cdl_kinds.specs.History.{bit, integer, is_on, one, word};
+ghost use Rattle.cdl_values.specs.History.{bit, integer, is_on, one, word};
 
-use crate::elementary::NoValue;
 use cdl_decimal::Real;
+
+/// There is no value: a result is out of the range of its type, or not defined.
+#[derive(Clone, Copy, Debug, PartialEq, Eq, Drop)]
+pub struct NoValue;
 
 /// The word of a Boolean.
 pub fn bit(b: bool) -> i64
@@ -96,7 +99,8 @@ pub fn put_three(words: &mut [i64], a: i64, b: i64, c: i64)
 /// The one word becomes this Integer. NoValue: it is out of range, and the word stays.
 pub fn put_integer(words: &mut [i64], z: i64) -> Result<(), NoValue>
     requires { length words.old ≡ 1 }
-    ensures { MatchResult result (λ _. integer z ≡ Some words.new) (λ _. integer z ≡ None) }
+    ensures value { MatchResult result (λ _. integer z ≡ Some words.new) (λ _. integer z ≡ None) }
+    ensures stays { OnErr result (words.new ≡ words.old) }
 {
     if -2_147_483_647 <= z && z <= 2_147_483_647 {
         put_one(words, z);
@@ -109,7 +113,8 @@ pub fn put_integer(words: &mut [i64], z: i64) -> Result<(), NoValue>
 /// The one word becomes this Real. NoValue: there is none, and the word stays.
 pub fn put_real(words: &mut [i64], x: Option<Real>) -> Result<(), NoValue>
     requires { length words.old ≡ 1 }
-    ensures { MatchResult result (λ _. one x ≡ Some words.new) (λ _. one x ≡ None) }
+    ensures value { MatchResult result (λ _. one x ≡ Some words.new) (λ _. one x ≡ None) }
+    ensures stays { OnErr result (words.new ≡ words.old) }
 {
     match x {
         Some(x) => {

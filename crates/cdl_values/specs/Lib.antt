@@ -1,0 +1,3 @@
+pub mod Values
+pub mod History
+pub mod Extremes
