@@ -3,7 +3,10 @@ ghost use Rattle.std.specs.Prelude.{◌≡◌, ◌<◌};
 ghost use Rattle.cdl_kinds.specs.Conditions.{Keeps};
 
 use crate::values::{numbers, values};
-use cdl_kinds::{Kind, Params, Port, Preset, Steps, check, find, kind_name, parameters, port, port_count, state_words};
+use cdl_kinds::{
+    Kind, Params, Port, Preset, Steps, check, find, kind_name, parameters, port, port_count,
+    state_words,
+};
 use cdl_values::ValueType;
 use std::alloc::{AllocError, Global};
 use std::marker::Brand;
