@@ -1,15 +1,16 @@
 // Each kind without a memory on inputs at their edges. The expected words were worked out with exact fractions, apart from the program.
-ghost use Rattle.std.specs.Prelude.{◌≡◌, ◌+◌, ◌<◌, ◌≤◌, ℕ, IsTrue, length, true};
+ghost use Rattle.std.specs.Prelude.{◌≡◌, ◌+◌, ◌<◌, ◌≤◌, ℕ, IfOk, IsTrue, length, true};
 ghost use Rattle.cdl_kinds.specs.Conditions.{Keeps};
 ghost use Rattle.cdl_values.specs.History.{AreReady, AreValues, IsValue, word};
 ghost use Rattle.cdl_kinds.specs.Ports.{inputs, outputs};
-ghost use Rattle.cdl_blocks.specs.MemorylessKinds.{is_memoryless};
 
 use crate::values::{numbers, values};
-use cdl_blocks::{AnyBlock, is_memoryless};
+use cdl_blocks::AnyBlock;
 use cdl_kinds::{Elementary, Kind, Params, Steps, check, find, port, port_count};
+use cdl_source::OutOfMemory;
 use cdl_values::words::read;
 use cdl_values::{NoValue, ValueType};
+use std::alloc::Global;
 use std::marker::Brand;
 use std::sync::ledger::{Blank, Ledger};
 use std::test::Fail;
@@ -109,7 +110,7 @@ fn is_input(kind: Kind, params: &Params, ins: &[i64], i: usize) -> bool
 }
 
 // Whether the words are values of the inputs, and there are as many outputs.
-fn are_ready(kind: Kind, params: &Params, ins: &[i64], outs: usize) -> bool
+pub fn are_ready(kind: Kind, params: &Params, ins: &[i64], outs: usize) -> bool
     requires keeps { Keeps kind params.now }
     requires few { outs ≤ 8 }
     ensures values { IsTrue result → AreValues (inputs kind params.now) ins.now }
@@ -151,10 +152,18 @@ fn first_tick<L: Ledger>(
     Some(block.emit(state, 0, ins, outs, &mut steps))
 }
 
+// Equal parameters, which the kind keeps too.
+#[tactic(auto, using(crate::proofs::Fitting::same_keeps))]
+fn copied(alloc: Global, kind: Kind, params: &Params) -> Result<Params, OutOfMemory>
+    requires { Keeps kind params.now }
+    ensures { IfOk result (λ p. Keeps kind p) }
+{
+    params.copy(alloc)
+}
+
 // Whether a block of the kind gives these words, or none where there are none.
 fn gives(kind: Kind, params: Params, ins: &[i64], want: &[i64]) -> bool
     requires keeps { Keeps kind params }
-    requires memoryless { is_memoryless kind ≡ true }
 {
     let n = if want.is_empty() { 1 } else { want.len() };
     if n > 8 || !are_ready(kind, &params, ins, n) {
@@ -171,15 +180,11 @@ fn gives(kind: Kind, params: Params, ins: &[i64], want: &[i64]) -> bool
 }
 
 #[test]
-#[test]
 fn each_kind_gives_its_words(rt: HostRuntime) -> Result<(), Fail> {
     let alloc = rt.alloc();
     for row in CASES.lines() {
         let mut cells = row.split(';');
         let kind = find(cells.next().ok_or("no kind")?).ok_or("no such kind")?;
-        if !is_memoryless(kind) {
-            return Err("a kind with a memory".into());
-        }
         let given = numbers(alloc, cells.next().ok_or("no parameters")?)?;
         let params = match check(kind, values(alloc, kind, given.as_slice())?) {
             Ok(params) => params,
@@ -190,7 +195,12 @@ fn each_kind_gives_its_words(rt: HostRuntime) -> Result<(), Fail> {
             let ins = numbers(alloc, ins)?;
             let want = numbers(alloc, outs)?;
             assert!(rt;
-                gives(kind, params.copy(alloc)?, ins.as_slice(), want.as_slice()),
+                gives(
+                    kind,
+                    copied(alloc, kind, &params)?,
+                    ins.as_slice(),
+                    want.as_slice()
+                ),
                 "{row}: {cell}"
             );
         }

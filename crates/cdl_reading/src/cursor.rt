@@ -19,6 +19,7 @@ use std::marker::Model;
 /// Why a rule stopped.
 #[derive(Clone, Copy)]
 pub enum Fault {
+    /// No memory was left for a tree.
     OutOfMemory,
     /// The token at which the cursor stands.
     Syntax,
@@ -112,6 +113,7 @@ impl<'a> Cursor<'a> {
         self.tokens.token(self.at).span
     }
 
+    /// Whether a token of this terminal is next.
     #[tactic(auto, unfolding(crate::specs::Reading::sees, cdl_tree::specs::Words::same_terminal))]
     pub fn sees(&self, terminal: Terminal) -> bool
         ensures { result ≡ spec.sees terminal self.now }

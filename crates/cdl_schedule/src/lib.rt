@@ -4,5 +4,7 @@
 
 mod plans;
 mod rows;
+mod steps;
 
 pub use plans::{OrderFault, OrderRefusal, Plan, order};
+pub use steps::Step;
