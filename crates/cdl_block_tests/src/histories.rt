@@ -6,9 +6,10 @@ ghost use Rattle.cdl_kinds.specs.Ports.{inputs, outputs};
 ghost use Rattle.cdl_values.specs.History.{AreValues};
 
 use crate::blocks::are_ready;
-use crate::values::{numbers, values};
+use crate::values::{block_of, numbers, params_of};
 use cdl_blocks::AnyBlock;
-use cdl_kinds::{Elementary, Kind, Params, Steps, check, find};
+use cdl_kinds::{Elementary, Kind, Params, Steps, find};
+use std::alloc::Global;
 use std::marker::Brand;
 use std::sync::ledger::{Blank, Ledger};
 use std::test::Fail;
@@ -115,9 +116,9 @@ fn gives(
     want: &[i64],
 ) -> bool
     requires keeps { Keeps kind params.now }
-    requires state { length state.old ≡ ⟦<AnyBlock as Elementary>⟧.width block.now }
     requires inputs { ⟦<AnyBlock as Elementary>⟧.inputs block.now ≡ inputs kind params.now }
     requires results { ⟦<AnyBlock as Elementary>⟧.results block.now ≡ outputs kind params.now }
+    requires state { length state.old ≡ ⟦<AnyBlock as Elementary>⟧.width block.now }
 {
     let n = if want.is_empty() { 1 } else { want.len() };
     if n > 8 || !are_ready(kind, params, ins, n) {
@@ -132,46 +133,55 @@ fn gives(
     }
 }
 
+// Whether the block follows the ticks of the row.
+fn follows(
+    alloc: Global,
+    kind: Kind,
+    params: &Params,
+    block: &AnyBlock,
+    state: &mut [i64],
+    row: &str,
+) -> Result<bool, Fail>
+    requires keeps { Keeps kind params.now }
+    requires inputs { ⟦<AnyBlock as Elementary>⟧.inputs block.now ≡ inputs kind params.now }
+    requires results { ⟦<AnyBlock as Elementary>⟧.results block.now ≡ outputs kind params.now }
+    requires state { length state.old ≡ ⟦<AnyBlock as Elementary>⟧.width block.now }
+{
+    let mut last = -1;
+    for cell in row.split(';').skip(2) {
+        let (tick, outs) = cell.split_once('=').ok_or("no outputs")?;
+        let tick = numbers(alloc, tick)?;
+        let want = numbers(alloc, outs)?;
+        let (now, ins) = tick.as_slice().split_first().ok_or("no time")?;
+        if !gives(kind, params, block, state, last, *now, ins, want.as_slice()) {
+            return Ok(false);
+        }
+        last = *now;
+    }
+    Ok(true)
+}
+
+// Whether a block of the row's kind and parameters follows its ticks.
+fn keeps_row(alloc: Global, row: &str) -> Result<bool, Fail> {
+    let mut cells = row.split(';');
+    let kind = find(cells.next().ok_or("no kind")?).ok_or("no such kind")?;
+    let given = numbers(alloc, cells.next().ok_or("no parameters")?)?;
+    let params = params_of(alloc, kind, given.as_slice())?;
+    let block = block_of(alloc, kind, &params)?;
+    let mut words = [0; 16];
+    let width = block.words();
+    if width > words.len() {
+        return Err("too many words".into());
+    }
+    let state = &mut words[..width];
+    block.reset(state);
+    follows(alloc, kind, &params, &block, state, row)
+}
+
 #[test]
 fn each_kind_follows_its_history(rt: HostRuntime) -> Result<(), Fail> {
-    let alloc = rt.alloc();
     for row in CASES.lines() {
-        let mut cells = row.split(';');
-        let kind = find(cells.next().ok_or("no kind")?).ok_or("no such kind")?;
-        let given = numbers(alloc, cells.next().ok_or("no parameters")?)?;
-        let params = match check(kind, values(alloc, kind, given.as_slice())?) {
-            Ok(params) => params,
-            Err(_fault) => return Err("a condition is broken".into()),
-        };
-        let block = AnyBlock::new(kind, params.copy(alloc)?);
-        let mut words = [0; 16];
-        let width = block.words();
-        if width > words.len() {
-            return Err("too many words".into());
-        }
-        let state = &mut words[..width];
-        block.reset(state);
-        let mut last = -1;
-        for cell in cells {
-            let (tick, outs) = cell.split_once('=').ok_or("no outputs")?;
-            let tick = numbers(alloc, tick)?;
-            let want = numbers(alloc, outs)?;
-            let (now, ins) = tick.as_slice().split_first().ok_or("no time")?;
-            assert!(rt;
-                gives(
-                    kind,
-                    &params,
-                    &block,
-                    state,
-                    last,
-                    *now,
-                    ins,
-                    want.as_slice()
-                ),
-                "{row}: {cell}"
-            );
-            last = *now;
-        }
+        assert!(rt; keeps_row(rt.alloc(), row)?, "{row}");
     }
     Ok(())
 }

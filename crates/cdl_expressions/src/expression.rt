@@ -66,7 +66,8 @@ fn factor(terminal: Terminal) -> Option<Op>
     }
 }
 
-/// The identifiers of `name = IDENT { "." IDENT }`, at most `most` behind the first. A fault leaves the cursor at its token.
+/// The identifiers of `name = IDENT { "." IDENT }`, at most `most` behind the first. `Syntax` where no identifier
+/// stands there or behind a period, with the cursor there; `OutOfMemory` where no memory was left.
 #[tactic(auto, unfolding(crate::specs::Expressions::name))]
 pub fn name(alloc: Global, tokens: &mut Cursor<'_>, most: usize) -> Result<List<Ident>, Fault>
     ensures { Gives (spec.name most tokens.old) result tokens.new }
@@ -513,7 +514,10 @@ impl<F: Fn(Global, &mut Cursor<'_>, usize) -> Result<Expr, Fault>> Grammar<F> {
     }
 }
 
-/// An expression in which expressions nest no deeper than `depth`.
+/// An expression, with the span of its tokens. Expressions nest no deeper in it than `depth`, and no list or row of operators has
+/// more than `depth` parts behind its first: the count of tokens is always enough. `Syntax` where the tokens go on with none, with
+/// the cursor at the token that is refused; `OutOfMemory` where no memory was left. The stack grows with the nesting and with the
+/// operators.
 pub fn expr(alloc: Global, tokens: &mut Cursor<'_>, depth: usize) -> Result<Expr, Fault>
     ensures { Gives (spec.expr depth tokens.old) result tokens.new }
 {

@@ -20,7 +20,8 @@ fn next<T, F: Fn(&mut Cursor<'_>) -> Result<T, Fault>>(
     item(tokens)
 }
 
-/// `{ separator item }`, with at most `most` items, each of which `item` reads: they are put behind those that are found.
+/// `{ separator item }`, with at most `most` items, each of which `item` reads: they are put behind those that are found. Errors
+/// are those of `item`, and `OutOfMemory` where no memory was left for the list.
 pub fn list_behind<T: Drop, F: Fn(&mut Cursor<'_>) -> Result<T, Fault>>(
     tokens: &mut Cursor<'_>,
     separator: Terminal,
@@ -42,7 +43,7 @@ pub fn list_behind<T: Drop, F: Fn(&mut Cursor<'_>) -> Result<T, Fault>>(
 }
 
 /// `item { separator item }`, with at most `most` items behind the first, each of which `item` reads: they are put behind those
-/// that are found.
+/// that are found. Errors are those of `item`, and `OutOfMemory` where no memory was left for the list.
 #[tactic(auto, unfolding(crate::specs::Reading::list))]
 pub fn list<T: Drop, F: Fn(&mut Cursor<'_>) -> Result<T, Fault>>(
     tokens: &mut Cursor<'_>,
