@@ -1,10 +1,10 @@
 -- Counters and changes, a tick further.
-use Rattle.std.proofs.Common.{ℕ, ◌≡◌, ◌≤◌, ◌∙◌, ap, inl, inr, refl, ℤ, List, [], ◌∷◌, Bool, true, false, cond, not, ◌&&◌, Option, Some, None, Result, Ok, Err, arith}
+use Rattle.std.proofs.Common.{ℕ, ◌≡◌, ◌≤◌, ◌∙◌, ap, refl, ℤ, List, [], ◌∷◌, Bool, true, false, cond, not, ◌&&◌, Some, None, Result, Ok, Err, arith}
 use Rattle.std.specs.Prelude.{IsSome, MatchResult, OnErr, OnOk, pos, ◌+ℤ◌, unsigned_abs}
 use Rattle.std.proofs.lemmas.Int.{ints}
 use Rattle.std.proofs.lemmas.Bool.Decides.{nat_tests}
-use Rattle.cdl_values.specs.declared.value.ValueType.TheVariants.{Boolean, Integer}
-use Rattle.cdl_values.specs.History.{AreValues, History, IsValue, before, bit, integer, integers, is_on, rises, tick, typed, word}
+use Rattle.cdl_values.specs.declared.value.ValueType.TheVariants.{Boolean}
+use Rattle.cdl_values.specs.History.{AreValues, History, before, bit, integer, integers, is_on, rises, tick, typed, word}
 use Rattle.cdl_kinds.specs.Meaning.Integers.{changes, counted, on_counter}
 use Rattle.cdl_kind_laws.proofs.TypedWords.{integer_typed}
 use Rattle.cdl_kind_laws.proofs.ValueWords.{bit_value, integer_fits, three_values}

@@ -1,16 +1,15 @@
 -- Samples and picks, a tick further.
-use Rattle.std.proofs.Common.{ℕ, ◌≡◌, ◌≤◌, ◌∙◌, ap, inl, inr, refl, ℤ, List, [], ◌∷◌, Bool, true, false, cond, not, ◌&&◌, Some, length, arith}
+use Rattle.std.proofs.Common.{◌≡◌, ◌≤◌, ap, inr, refl, ℤ, List, [], ◌∷◌, Bool, true, false, cond, length, arith}
 use Rattle.std.specs.Prelude.{pos, negsuc, ◌≤ℤ◌, ◌<ℤ◌}
-use Rattle.std.specs.Int.RustNames.{int_le, int_lt}
+use Rattle.std.specs.Int.RustNames.{int_lt}
 use Rattle.std.proofs.lemmas.Int.{ints}
 use Rattle.cdl_decimal.specs.Near.{InRange}
 use Rattle.cdl_values.specs.declared.value.ValueType.TheVariants.{Boolean, Real}
-use Rattle.cdl_values.specs.History.{AreValues, History, IsHistory, IsValue, Tick, before, bit, is_on, last_time, later, reals, rises, tick, typed, word}
+use Rattle.cdl_values.specs.History.{AreValues, History, IsHistory, Tick, before, bit, is_on, last_time, later, reals, rises, tick, typed, word}
 use Rattle.cdl_kinds.specs.Meaning.Discrete.{caught, first_or, interval, picked, picks, sampled, sampler, samples, second_or, triggered_max, triggered_sampler, unit_delay}
 use Rattle.cdl_values.specs.Extremes.{greater_of, greatest}
-use Rattle.cdl_kinds.specs.States.{IsIntervalUpTo, IsSamplerState, IsUnitDelayState, has_begun, last_interval}
+use Rattle.cdl_kinds.specs.States.{IsSamplerState, IsUnitDelayState, has_begun, last_interval}
 use Rattle.cdl_kind_laws.proofs.Past.{caught_real, first_real, greatest_real, interval_up_to, picked_reals, sampled_reals, second_real}
-use Rattle.cdl_kind_laws.proofs.TypedWords.{choose_value}
 use Rattle.cdl_kind_laws.proofs.ValueWords.{before_value, bit_value, one_word, three_values, two_values}
 use Rattle.cdl_discrete.specs.Samples.{at_sample, greatest_next}
 use Rattle.cdl_timed.proofs.ValueStates.{bit_again}

@@ -1,7 +1,6 @@
 -- The window of a moving mean, a tick further.
-use Rattle.std.proofs.Common.{ℕ, zero, suc, ◌+◌, ◌-◌, ◌++◌, ◌⊎◌, replicate, add-one, ◌<◌, ◌≤◌, ◌≡◌, ◌∙◌, ap, inl, inr, refl, sym, subst, ℤ, List, [], ◌∷◌, Bool, true, false, cond, not, ◌&&◌, ◌||◌, Option, Some, length, min, drop, take, arith}
+use Rattle.std.proofs.Common.{ℕ, zero, suc, ◌+◌, ◌-◌, ◌++◌, ◌⊎◌, replicate, add-one, ◌<◌, ◌≤◌, ◌≡◌, ◌∙◌, ap, inl, inr, refl, sym, subst, ℤ, List, [], ◌∷◌, Bool, true, false, cond, not, ◌&&◌, ◌||◌, Some, length, min, drop, take, arith}
 use Rattle.std.specs.Prelude.{pos, negsuc, ◌+ℤ◌, ◌≤ℤ◌, slice_set, unsigned_abs}
-use Rattle.std.specs.Ordering.{int_eq}
 use Rattle.std.proofs.lemmas.Int.{ints}
 use Rattle.std.proofs.Math.Seq.{drop-cons}
 use Rattle.std.proofs.lemmas.List.{get_or-take, length-take, take_all}
@@ -10,7 +9,7 @@ use Rattle.cdl_decimal.specs.Near.{InRange, in_range, near}
 use Rattle.std.specs.List.{slice_rotate_right}
 use Rattle.std.proofs.lemmas.Bool.Decides.{nat_tests}
 use Rattle.cdl_values.specs.declared.value.ValueType.TheVariants.{Boolean, Real}
-use Rattle.cdl_values.specs.History.{AreValues, History, IsHistory, IsValue, before, is_on, one, reals, rises, tick, typed, word}
+use Rattle.cdl_values.specs.History.{AreValues, History, IsHistory, IsValue, before, is_on, one, reals, tick, typed, word}
 use Rattle.cdl_kinds.specs.Meaning.Discrete.{picked, picks, triggered_moving_mean}
 use Rattle.cdl_kinds.specs.States.{IsMeanState, mean_words, padded}
 use Rattle.cdl_kind_laws.proofs.Past.{no_samples as none_picked, picked_reals, samples_count}

@@ -1,5 +1,5 @@
 -- Holds, read from their words, a tick further.
-use Rattle.std.proofs.Common.{◌≡◌, inl, refl, ap, ℤ, List, [], ◌∷◌, Bool, true, false, cond, Option, Some, None, arith}
+use Rattle.std.proofs.Common.{◌≡◌, inl, refl, ℤ, List, [], ◌∷◌, Bool, true, false, cond, Option, Some, None, arith}
 use Rattle.std.specs.Prelude.{pos, negsuc, ◌≤ℤ◌}
 use Rattle.std.specs.Int.RustNames.{int_le}
 use Rattle.std.proofs.lemmas.Int.{ints}

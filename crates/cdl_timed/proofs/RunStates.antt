@@ -1,6 +1,6 @@
 -- Runs of true inputs, read from their words, a tick further.
 use Rattle.std.proofs.Common.{◌≡◌, refl, ℤ, List, [], ◌∷◌, Bool, true, false, not, ◌&&◌, ◌||◌, Option, Some, None, arith}
-use Rattle.std.specs.Prelude.{pos, negsuc, ◌≤ℤ◌, ◌<ℤ◌}
+use Rattle.std.specs.Prelude.{pos, negsuc, ◌<ℤ◌}
 use Rattle.std.proofs.lemmas.Int.{ints}
 use Rattle.cdl_decimal.specs.Near.{InRange}
 use Rattle.cdl_values.specs.declared.value.ValueType.TheVariants.{Boolean, Real}

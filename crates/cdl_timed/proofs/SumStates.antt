@@ -1,10 +1,10 @@
 -- Times that are added up, a tick further.
-use Rattle.std.proofs.Common.{ℕ, ◌≡◌, zero, suc, refl, ap, inl, inr, ℤ, List, [], ◌∷◌, Bool, true, false, cond, not, ◌&&◌, Some, arith}
+use Rattle.std.proofs.Common.{ℕ, ◌≡◌, zero, suc, refl, ap, inl, inr, ℤ, List, [], ◌∷◌, Bool, true, false, cond, not, ◌&&◌, arith}
 use Rattle.std.specs.Prelude.{pos, negsuc, ◌≤ℤ◌, ◌<ℤ◌, ◌+ℤ◌, ◌*ℤ◌}
 use Rattle.std.proofs.lemmas.Int.{ints}
-use Rattle.cdl_values.specs.declared.value.ValueType.TheVariants.{Boolean, Real}
+use Rattle.cdl_values.specs.declared.value.ValueType.TheVariants.{Boolean}
 use Rattle.cdl_values.specs.History.{AreValues, History, IsHistory, before, bit, is_on, last_time, rises, tick, typed, word}
-use Rattle.cdl_kinds.specs.Meaning.Timers.{accumulated, elapsed, since, timed, timer_accumulating}
+use Rattle.cdl_kinds.specs.Meaning.Timers.{accumulated, elapsed, since, timer_accumulating}
 use Rattle.cdl_kinds.specs.States.{IsAccumulatingState}
 use Rattle.cdl_kind_laws.proofs.Past.{accumulated_added}
 use Rattle.cdl_kind_laws.proofs.ValueWords.{before_value, bit_value}

@@ -1,6 +1,6 @@
 -- A few words are values, told one by one.
-use Rattle.std.proofs.Common.{ℕ, zero, suc, ◌<◌, ◌≡◌, inl, inr, refl, ℤ, List, [], ◌∷◌, length, arith}
-use Rattle.std.specs.Prelude.{◌↔◌, Bool, true, false, ◌&&◌, IsTrue}
+use Rattle.std.proofs.Common.{◌≡◌, inl, inr, refl, ℤ, List, [], ◌∷◌, length, arith}
+use Rattle.std.specs.Prelude.{◌↔◌}
 use Rattle.cdl_values.specs.declared.value.ValueType.{ValueType}
 use Rattle.cdl_values.specs.declared.value.ValueType.TheVariants.{Boolean, Integer, Real}
 use Rattle.cdl_values.specs.History.{AreValues, IsValue, bit, booleans, integers, is_on, typed, word}

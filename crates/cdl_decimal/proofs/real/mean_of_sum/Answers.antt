@@ -1,4 +1,4 @@
-use Rattle.std.proofs.Common.{◌≡◌, sym, subst, Some, arith}
+use Rattle.std.proofs.Common.{◌≡◌, subst, Some, arith}
 use Rattle.std.specs.Prelude.{ℤ}
 use Rattle.std.proofs.lemmas.Int.{ints}
 use mir.Syntax.{w128}

@@ -1,4 +1,4 @@
-use Rattle.std.proofs.Common.{◌≡◌, ◌∙◌, ◌∷◌, [], refl, arith, of_z, to_z}
+use Rattle.std.proofs.Common.{◌≡◌, refl, arith, of_z, to_z}
 use Rattle.std.specs.Int.{w64}
 use Rattle.std.proofs.lemmas.Int.{to_z-of_z}
 use Rattle.cdl_discrete.proofs.Sampling.{greatest_further, one_real}

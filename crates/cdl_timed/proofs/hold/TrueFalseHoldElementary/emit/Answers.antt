@@ -1,4 +1,4 @@
-use Rattle.std.proofs.Common.{◌≡◌, ◌∙◌, arith, of_z, to_z}
+use Rattle.std.proofs.Common.{◌≡◌, arith, of_z, to_z}
 use Rattle.std.specs.Int.{w64}
 use Rattle.std.proofs.lemmas.Int.{to_z-of_z}
 use Rattle.cdl_timed.proofs.HoldStates.{hold_gives}
