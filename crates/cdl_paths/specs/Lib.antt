@@ -1,0 +1,4 @@
+pub mod Members
+pub mod Modifiers
+pub mod Bindings
+pub mod References
