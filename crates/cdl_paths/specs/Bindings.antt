@@ -3,7 +3,6 @@ use Rattle.std.specs.Prelude.{ℕ, ◌+◌, cond, List, [], ◌∷◌, Option, S
 use Rattle.std.specs.Str.{bytes_eq}
 use Rattle.cdl_tree.specs.declared.expr.Expr.{Expr}
 use Rattle.cdl_tree.specs.declared.class.Modifier.{Modifier}
-use Rattle.cdl_kinds.specs.declared.kind.Kind.{Kind}
 use Rattle.cdl_kinds.specs.declared.parameter.Preset.{Preset}
 use Rattle.cdl_kinds.specs.Table.{ParameterRow}
 use Rattle.cdl_kinds.specs.Parameters.{parameters}

@@ -2,3 +2,4 @@ pub mod Members
 pub mod Modifiers
 pub mod Bindings
 pub mod References
+pub mod HandOut

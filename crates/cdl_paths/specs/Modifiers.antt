@@ -48,6 +48,6 @@ eaches args (s ∷ rest) name = is_each (first s.name args) ∷ eaches (args_in 
 
 -- of the lists that stand beside these, those that are not left out, one after the other
 abbrev pub not_left_out : {A : Type 0} → List Bool → List (List A) → List A
-not_left_out [] lists = []
-not_left_out (out ∷ outs) [] = []
-not_left_out (out ∷ outs) (l ∷ ls) = cond out (not_left_out outs ls) (l ++ not_left_out outs ls)
+not_left_out outs [] = []
+not_left_out [] (l ∷ ls) = []
+not_left_out (out ∷ outs) (l ∷ ls) = cond out [] l ++ not_left_out outs ls

@@ -56,7 +56,12 @@ fn own<'t>(table: &'t ClassTable, site: Found, steps: usize, name: &[u8]) -> Opt
 
 /// What binds the parameter of this name of the instance behind these steps from a first class: the first step whose arguments give
 /// it a value, else its own declaration or the default of its kind. None: nothing does.
-pub fn binding_of<'t>(table: &'t ClassTable, first: Found, steps: &[Step], name: &[u8]) -> Option<Binding<'t>>
+pub fn binding_of<'t>(
+    table: &'t ClassTable,
+    first: Found,
+    steps: &[Step],
+    name: &[u8],
+) -> Option<Binding<'t>>
     ensures { option_map spec.bound result ≡ spec.binding_of (declared table.now) first 0 steps.now name.now }
 {
     let mut site = first;
