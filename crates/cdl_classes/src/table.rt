@@ -1,5 +1,6 @@
 // The table of the declared classes, which keep the rules on classes.
 ghost use Rattle.std.specs.Prelude.{◌≡◌, ◌<◌, ◌≤◌, ◌^◌, IfOk, IfErr, IfSome, List, None, Some, true, length, slice_get, option_map, option_and_then};
+ghost use Rattle.cdl_source.specs.declared.limits.TheConstants.{MOST_MODELS};
 ghost use Rattle.std.specs.List.{list_all};
 ghost use Rattle.cdl_tree.specs.declared.class.Item.{Item as ItemOf};
 ghost use Rattle.cdl_tree.specs.FormedFiles.{formed_class, formed_file};
@@ -73,7 +74,7 @@ impl ClassTable {
     /// isn't supported; of one rule the first place by file, then by byte. `OutOfMemory` comes too where 2^32 names or more are
     /// declared, which texts of the allowed sizes never do. A refused list of files is dropped.
     pub fn build(alloc: Global, files: List<FileTree>) -> Result<ClassTable, ClassFault>
-        requires few { length files ≤ 64 }
+        requires few { length files ≤ MOST_MODELS }
         requires formed { list_all formed_file files ≡ true }
         ensures ok { IfOk result (λ table. (table ≡ files) × IsUnbroken (declared files)) }
         ensures err { IfErr result (Refuses files) }

@@ -1,5 +1,5 @@
 -- Declarations and statements have no more names than tokens.
-use Rattle.std.proofs.Common.{◌≡◌, ℕ, suc, ◌+◌, ◌≤◌, List, [], ◌∷◌, ◌++◌, length, map, Option, Some, None, arith, rules, length-append}
+use Rattle.std.proofs.Common.{◌≡◌, ℕ, suc, ◌+◌, ◌≤◌, List, [], ◌∷◌, ◌++◌, length, Option, Some, None, arith, rules, length-append}
 use Rattle.cdl_tree.specs.declared.name.Ident.{Ident}
 use Rattle.cdl_tree.specs.declared.expr.Expr.{Expr}
 use Rattle.cdl_tree.specs.declared.class.Dim.{Dim}
@@ -14,7 +14,7 @@ use Rattle.cdl_tree.specs.declared.class.Loop.{Loop}
 use Rattle.cdl_tree.specs.Words.{Word}
 use Rattle.cdl_tree.specs.Trees.{the_ident, listed, Head, the_item, the_connect, the_loop}
 use Rattle.cdl_tree.specs.Grammar.{DimOf, any_size, a_size, DimList, one_dim, more_dims, Dims, no_dim, dims, DeclOf, decl, Decls, one_decl, more_decls, ClauseOf, clause, ConstantOf, constant, SubOf, all_places, one_place, places, SubList, one_sub, more_subs, Subs, no_sub, subs, PartOf, part, RefOf, one_part, more_parts, ConnectOf, connect, StatementOf, a_connect, a_loop, LoopOf, loop, Body, no_body, more_body, Statements, no_statement, then_statement, then_note, EquationPart, no_equation, equation}
-use Rattle.cdl_expressions.specs.Names.{total, names_in, names_of_value, names_of_modifier}
+use Rattle.cdl_expressions.specs.Names.{names_in, names_of_modifier}
 use Rattle.cdl_expressions.proofs.Counted.{total_behind, around, beside, between, expr_counted, value_counted, condition_counted, names_of_args, optional_counted}
 use Rattle.cdl_clauses.specs.Names.{names_of, names_of_dim, names_of_item, names_of_sub, names_of_part, names_of_connect, names_of_statement}
 
@@ -43,8 +43,18 @@ dims_counted (dims a b {w} h x i) = between _ a w b (dim_list_counted x)
 decl_counted : {head : Head} {w : Word} {x : Item} → DeclOf head w x → names_of_item x ≤ length w
 unfolding the_item
 decl_counted (decl i {u} {v} {x} {y} {z} {ds} {ms} {e} {c} h d a k l t) =
-    omega (arith, dims_counted d, listed_counted ms, optional_counted a, value_counted k, condition_counted l,
-    length-append u (v ++ (x ++ (y ++ z))), length-append v (x ++ (y ++ z)), length-append x (y ++ z), length-append y z)
+    omega (
+      arith,
+      dims_counted d,
+      listed_counted ms,
+      optional_counted a,
+      value_counted k,
+      condition_counted l,
+      length-append u (v ++ (x ++ (y ++ z))),
+      length-append v (x ++ (y ++ z)),
+      length-append x (y ++ z),
+      length-append y z,
+    )
 
 decls_counted : {head : Head} {w : Word} {xs : List Item} → Decls head w xs → names_of names_of_item xs ≤ length w
 decls_counted (one_decl x) = omega (arith, decl_counted x)
@@ -101,8 +111,16 @@ mutual
 
   loop_counted : {w : Word} {l : Loop} → LoopOf w l → names_of_statement (variant.Loop l) ≤ length w
   loop_counted (loop f i n c o e g s {u} {v} {w} {l} {h} {body = xs} hf hi hn x hc y ho b he hg hs) =
-      omega (arith, loop_has (the_ident i) l h xs (f ∷ i ∷ n ∷ (u ++ c ∷ (v ++ o ∷ (w ++ e ∷ g ∷ s ∷ [])))), expr_counted x, expr_counted y, body_counted b,
-      length-append u (c ∷ (v ++ o ∷ (w ++ e ∷ g ∷ s ∷ []))), length-append v (o ∷ (w ++ e ∷ g ∷ s ∷ [])), length-append w (e ∷ g ∷ s ∷ []))
+      omega (
+        arith,
+        loop_has (the_ident i) l h xs (f ∷ i ∷ n ∷ (u ++ c ∷ (v ++ o ∷ (w ++ e ∷ g ∷ s ∷ [])))),
+        expr_counted x,
+        expr_counted y,
+        body_counted b,
+        length-append u (c ∷ (v ++ o ∷ (w ++ e ∷ g ∷ s ∷ []))),
+        length-append v (o ∷ (w ++ e ∷ g ∷ s ∷ [])),
+        length-append w (e ∷ g ∷ s ∷ []),
+      )
 
   body_counted : {w : Word} {xs : List Statement} → Body w xs → names_of names_of_statement xs ≤ length w
   body_counted no_body = omega arith

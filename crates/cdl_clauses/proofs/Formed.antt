@@ -1,5 +1,5 @@
 -- Every declaration and every statement of a text is formed.
-use Rattle.std.proofs.Common.{◌≡◌, Bool, true, ◌&&◌, List, [], ◌∷◌, ◌++◌, map, Option, Some, None, refl, ◌∙◌, rules}
+use Rattle.std.proofs.Common.{◌≡◌, true, ◌&&◌, List, [], ◌∷◌, ◌++◌, map, Option, Some, None, refl, ◌∙◌, rules}
 use Rattle.std.specs.List.{list_all}
 use Rattle.cdl_tree.specs.declared.name.Ident.{Ident}
 use Rattle.cdl_tree.specs.declared.expr.Expr.{Expr}

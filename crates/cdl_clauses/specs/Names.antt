@@ -1,6 +1,6 @@
 -- How many names declarations and statements have: each declared name, each index of a loop, each part of an end of a connect statement,
 -- and those in their expressions and arguments.
-use Rattle.std.specs.Prelude.{ℕ, suc, ◌+◌, List, [], ◌∷◌, map}
+use Rattle.std.specs.Prelude.{ℕ, suc, ◌+◌, List, map}
 use Rattle.cdl_tree.specs.declared.class.Dim.{Dim}
 use Rattle.cdl_tree.specs.declared.class.Dim.TheVariants as dim
 use Rattle.cdl_tree.specs.declared.class.Item.{Item}

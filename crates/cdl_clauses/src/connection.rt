@@ -4,7 +4,7 @@ ghost use Rattle.cdl_clauses.specs.Declarations as spec;
 
 use crate::declaration::tail;
 use cdl_expressions::expr;
-use cdl_reading::{Cursor, Fault};
+use cdl_reading::{Cursor, Fault, list};
 use cdl_source::List;
 use cdl_tree::{Connect, Part, Ref, Sub, Terminal};
 use std::alloc::Global;
@@ -26,18 +26,12 @@ fn sub(alloc: Global, tokens: &mut Cursor<'_>, most: usize) -> Result<Sub, Fault
 }
 
 // sub { "," sub }
+#[tactic(auto, unfolding(crate::specs::Declarations::sub_list))]
 fn sub_list(alloc: Global, tokens: &mut Cursor<'_>, most: usize) -> Result<List<Sub>, Fault>
     ensures { Gives (spec.sub_list most tokens.old) result tokens.new }
 {
-    let mut found = List::new(alloc);
-    found.push(sub(alloc, tokens, most)?)?;
-    for _turn in 0..most {
-        if !tokens.eat(Terminal::Comma) {
-            return Ok(found);
-        }
-        found.push(sub(alloc, tokens, most)?)?;
-    }
-    Ok(found)
+    let sub = |tokens: &mut Cursor<'_>| sub(alloc, tokens, most);
+    list(tokens, Terminal::Comma, most, &sub, List::new(alloc))
 }
 
 // [ "[" sub { "," sub } "]" ]
@@ -64,18 +58,12 @@ fn part(alloc: Global, tokens: &mut Cursor<'_>, most: usize) -> Result<Part, Fau
 }
 
 // ref = part { "." part }
+#[tactic(auto, unfolding(crate::specs::Declarations::reference))]
 fn reference(alloc: Global, tokens: &mut Cursor<'_>, most: usize) -> Result<List<Part>, Fault>
     ensures { Gives (spec.reference most tokens.old) result tokens.new }
 {
-    let mut found = List::new(alloc);
-    found.push(part(alloc, tokens, most)?)?;
-    for _turn in 0..most {
-        if !tokens.eat(Terminal::Period) {
-            return Ok(found);
-        }
-        found.push(part(alloc, tokens, most)?)?;
-    }
-    Ok(found)
+    let part = |tokens: &mut Cursor<'_>| part(alloc, tokens, most);
+    list(tokens, Terminal::Period, most, &part, List::new(alloc))
 }
 
 /// `connect = "connect" "(" ref "," ref ")" tail ";"`

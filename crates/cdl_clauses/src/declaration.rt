@@ -6,7 +6,7 @@ ghost use Rattle.cdl_reading.specs.Gives.{Gives};
 ghost use Rattle.cdl_clauses.specs.Declarations as spec;
 
 use cdl_expressions::{expr, name, optional, optional_args, text};
-use cdl_reading::{Cursor, Fault};
+use cdl_reading::{Cursor, Fault, list};
 use cdl_source::List;
 use cdl_tree::{Dim, Item, Modifier, Name, Prefix, Terminal};
 use std::alloc::Global;
@@ -158,18 +158,12 @@ fn dim(alloc: Global, tokens: &mut Cursor<'_>, most: usize) -> Result<Dim, Fault
 }
 
 // dim { "," dim }
+#[tactic(auto, unfolding(crate::specs::Declarations::dim_list))]
 fn dim_list(alloc: Global, tokens: &mut Cursor<'_>, most: usize) -> Result<List<Dim>, Fault>
     ensures { Gives (spec.dim_list most tokens.old) result tokens.new }
 {
-    let mut found = List::new(alloc);
-    found.push(dim(alloc, tokens, most)?)?;
-    for _turn in 0..most {
-        if !tokens.eat(Terminal::Comma) {
-            return Ok(found);
-        }
-        found.push(dim(alloc, tokens, most)?)?;
-    }
-    Ok(found)
+    let dim = |tokens: &mut Cursor<'_>| dim(alloc, tokens, most);
+    list(tokens, Terminal::Comma, most, &dim, List::new(alloc))
 }
 
 // [ "[" dim { "," dim } "]" ]

@@ -1,5 +1,5 @@
 -- The trees of texts are formed.
-use Rattle.std.proofs.Common.{◌≡◌, ℕ, Bool, true, ◌&&◌, List, [], ◌∷◌, refl}
+use Rattle.std.proofs.Common.{◌≡◌, ℕ, true, List, [], ◌∷◌, refl}
 use Rattle.std.specs.List.{list_all}
 use Rattle.cdl_tree.specs.declared.class.FileTree.{FileTree}
 use Rattle.cdl_tree.specs.FormedFiles.{formed_file}
@@ -15,7 +15,7 @@ tree_formed : (bytes : List ℕ) (tree : FileTree) → IsTreeOf bytes tree → f
 tree_formed bytes tree h =
     let tokens = unbroken_tokens bytes h.tokens h.none_broken h.splits in
     let spelled : are_spelled (lexemes bytes h.tokens) ≡ true = words_spelled (record { file = 0; bytes = bytes; items = h.tokens }) tokens in
-    file_formed h.closes.1.0 spelled
+    file_formed h.closes.1 spelled
 
 pub trees_formed : (texts : List (List ℕ)) (trees : List FileTree) → HaveTrees texts trees → list_all formed_file trees ≡ true
 trees_formed [] [] h = refl

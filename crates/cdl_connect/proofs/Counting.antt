@@ -3,6 +3,7 @@ use Rattle.std.proofs.Common.{ℕ, zero, suc, ◌+◌, ◌<◌, ◌≡◌, ◌==
 use Rattle.std.proofs.lemmas.List.{get_or-set_same, get_or-set_other}
 use Rattle.std.proofs.lemmas.List.Sums.{count_by_more_yes, count_by_more_no}
 use Rattle.std.proofs.lemmas.Option.{slice_get_read}
+use Rattle.cdl_source.specs.declared.rules.TheConstants.{MORE_THAN_ONE_SOURCE}
 use Rattle.cdl_network.specs.Rules.{fault_by}
 use Rattle.std.proofs.lemmas.Bool.{cases_eq, ne_eqb}
 
@@ -35,7 +36,7 @@ each_next f xs i x h r e g j w k s = elim (cases_eq j i) as (λ _. f w ≡ None)
 ]
 
 -- two or more wires
-pub many_sources : (k : ℕ) → (k ≡ 0 → ⊥) → (k ≡ 1 → ⊥) → fault_by true k ≡ Some 45
+pub many_sources : (k : ℕ) → (k ≡ 0 → ⊥) → (k ≡ 1 → ⊥) → fault_by true k ≡ Some MORE_THAN_ONE_SOURCE
 many_sources zero f g = absurd (f refl)
 many_sources (suc zero) f g = absurd (g refl)
 many_sources (suc (suc k)) f g = refl

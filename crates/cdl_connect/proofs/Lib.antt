@@ -1,3 +1,4 @@
 pub mod Counting
 pub mod Networks
 pub mod Checks
+pub mod Windows

@@ -2,6 +2,7 @@
 use Rattle.std.proofs.Common.{ℕ, zero, suc, ◌+◌, ◌<◌, ◌≡◌, ◌==◌, refl, sym, ap, ◌∙◌, subst, arith, true, false, List, [], length, Some, None, slice_get}
 use Rattle.std.specs.Prelude.{option_map}
 use Rattle.std.proofs.lemmas.Option.{slice_get_within}
+use Rattle.cdl_source.specs.declared.rules.TheConstants.{TWO_SOURCES_OR_SINKS, TYPES_DIFFER, MORE_THAN_ONE_SOURCE, NO_SOURCE, UNITS_DIFFER}
 use Rattle.cdl_network.specs.Lists.{In, Apart, numbers}
 use Rattle.cdl_network.specs.Rules.{sink_of, wire_fault, element_fault, arrivals, is_wanted, first_wire, first_element}
 use Rattle.cdl_network.specs.Dependence.{NoLoop}
@@ -70,18 +71,18 @@ at_same_element : (n : Net) (x r : ℕ) (p : Spot ℕ ℕ) → IsFirstElement n 
 at_same_element n x r p f e = subst (λ o. FirstBroken (network_of n) o) (sym e) (no_wire n (λ j w l s. f.wires j w l s), element_first n x r f)
 
 pub fault_first : (n : Net) (f : NetFault) (p : Spot ℕ ℕ) → IsFault n f → IsSpotOf n f p → FirstBroken (network_of n) p
-fault_first n (SameSide k) p f s = at_same_wire n k 43 p f s
-fault_first n (TypesDiffer k) p f s = at_same_wire n k 44 p f s
-fault_first n (UnitsDiffer k) p f s = at_same_wire n k 48 p f s
-fault_first n (ManySources x) p f s = at_same_element n x 45 p f s
-fault_first n (NoSource x) p f s = at_same_element n x 46 p f s
+fault_first n (SameSide k) p f s = at_same_wire n k TWO_SOURCES_OR_SINKS p f s
+fault_first n (TypesDiffer k) p f s = at_same_wire n k TYPES_DIFFER p f s
+fault_first n (UnitsDiffer k) p f s = at_same_wire n k UNITS_DIFFER p f s
+fault_first n (ManySources x) p f s = at_same_element n x MORE_THAN_ONE_SOURCE p f s
+fault_first n (NoSource x) p f s = at_same_element n x NO_SOURCE p f s
 fault_first n OutOfMemory p f s = absurd s
 
 pub none_first : (n : Net) → IsUnbroken n → (first_wire (network_of n) ≡ None) × (first_element (network_of n) ≡ None)
 none_first n u = (no_wire n (λ j w l s. u.wires j w l s), no_element_broken n (λ x l. u.elements x l))
 
 -- well formed
-apart_numbers : (a n : ℕ) → Apart (numbers a n)
+pub apart_numbers : (a n : ℕ) → Apart (numbers a n)
 apart_numbers a zero = tt
 apart_numbers a (suc n) = (λ i. let r = in_numbers (suc a) n a i in omega (arith, r.0), apart_numbers (suc a) n)
 

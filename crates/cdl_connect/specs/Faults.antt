@@ -1,5 +1,6 @@
 -- The first broken rule of a net, by its place, and what a checked net keeps.
 use Rattle.std.specs.Prelude.{ℕ, ◌<◌, ◌≡◌, length, Some, None, slice_get}
+use Rattle.cdl_source.specs.declared.rules.TheConstants.{TWO_SOURCES_OR_SINKS, TYPES_DIFFER, MORE_THAN_ONE_SOURCE, NO_SOURCE, UNITS_DIFFER}
 use Rattle.cdl_network.specs.FirstBroken.{Spot, AtWire, AtElement}
 use Rattle.cdl_network.specs.Rules.{wire_fault, element_fault}
 use Rattle.cdl_connect.specs.declared.net.Net.{Net}
@@ -33,11 +34,11 @@ pub record IsFirstElement (n : Net) (x r : ℕ) : Type 0 where
 
 -- The fault is that of the first broken rule of wires and elements, with its place; want of memory is free.
 abbrev pub IsFault : Net → NetFault → Type 0
-IsFault n (SameSide k) = IsFirstWire n k 43
-IsFault n (TypesDiffer k) = IsFirstWire n k 44
-IsFault n (UnitsDiffer k) = IsFirstWire n k 48
-IsFault n (ManySources x) = IsFirstElement n x 45
-IsFault n (NoSource x) = IsFirstElement n x 46
+IsFault n (SameSide k) = IsFirstWire n k TWO_SOURCES_OR_SINKS
+IsFault n (TypesDiffer k) = IsFirstWire n k TYPES_DIFFER
+IsFault n (UnitsDiffer k) = IsFirstWire n k UNITS_DIFFER
+IsFault n (ManySources x) = IsFirstElement n x MORE_THAN_ONE_SOURCE
+IsFault n (NoSource x) = IsFirstElement n x NO_SOURCE
 IsFault n OutOfMemory = Unit {0}
 
 -- No rule of wires and elements is broken.
@@ -52,9 +53,9 @@ pub record IsChecked (n : Net) : Type 0 where
 
 -- the spot in the network of a fault of the net
 abbrev pub IsSpotOf : Net → NetFault → Spot ℕ ℕ → Type 0
-IsSpotOf n (SameSide k) p = (w : RawWire) × (slice_get n.wires k ≡ Some w) × (p ≡ AtWire (wire_in w) 43)
-IsSpotOf n (TypesDiffer k) p = (w : RawWire) × (slice_get n.wires k ≡ Some w) × (p ≡ AtWire (wire_in w) 44)
-IsSpotOf n (UnitsDiffer k) p = (w : RawWire) × (slice_get n.wires k ≡ Some w) × (p ≡ AtWire (wire_in w) 48)
-IsSpotOf n (ManySources x) p = p ≡ AtElement x 45
-IsSpotOf n (NoSource x) p = p ≡ AtElement x 46
+IsSpotOf n (SameSide k) p = (w : RawWire) × (slice_get n.wires k ≡ Some w) × (p ≡ AtWire (wire_in w) TWO_SOURCES_OR_SINKS)
+IsSpotOf n (TypesDiffer k) p = (w : RawWire) × (slice_get n.wires k ≡ Some w) × (p ≡ AtWire (wire_in w) TYPES_DIFFER)
+IsSpotOf n (UnitsDiffer k) p = (w : RawWire) × (slice_get n.wires k ≡ Some w) × (p ≡ AtWire (wire_in w) UNITS_DIFFER)
+IsSpotOf n (ManySources x) p = p ≡ AtElement x MORE_THAN_ONE_SOURCE
+IsSpotOf n (NoSource x) p = p ≡ AtElement x NO_SOURCE
 IsSpotOf n OutOfMemory p = ⊥

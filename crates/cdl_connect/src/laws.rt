@@ -9,7 +9,7 @@ ghost use Rattle.cdl_network.specs.Ticks.{Solves, Tick, Valuation};
 ghost use Rattle.cdl_connect.specs.declared.net.Net.{Net};
 ghost use Rattle.cdl_connect.specs.declared.faults.NetFault.{NetFault};
 ghost use Rattle.cdl_connect.specs.Nets.{network_of};
-ghost use Rattle.cdl_connect.specs.WellFormed.{IsIndexed, IsWellFormed};
+ghost use Rattle.cdl_connect.specs.WellFormed.{AreOfKinds, IsIndexed, IsWellFormed};
 ghost use Rattle.cdl_connect.specs.Faults.{IsChecked, IsFault, IsSpotOf, IsUnbroken};
 
 /// The network of a net whose numbers are good is well formed, and the numbers of a well-formed net are good.
@@ -25,10 +25,15 @@ pub fn first_by_place()
     ensures unbroken { (n : Net) → IsUnbroken n → (first_wire (network_of n) ≡ None) × (first_element (network_of n) ≡ None) }
 {}
 
-/// In a checked net exactly one wire ends at each sink; and where nothing is on a loop, and inputs that aren't direct have no
-/// part in a meaning, exactly one list of valuations solves it for each list of ticks.
+/// Inputs that aren't direct have no part in the meanings of a net in which each elementary instance is one of its kind.
+pub fn only_direct_inputs_count()
+    ensures { (n : Net) → IsIndexed n → AreOfKinds n → DirectOnly (network_of n) }
+{}
+
+/// In a checked net exactly one wire ends at each sink; and where nothing is on a loop, and each elementary instance is one of
+/// its kind, exactly one list of valuations solves it for each list of ticks.
 pub fn checked_has_one()
     ensures source { (n : Net) (x : ℕ) → IsChecked n → x < length n.elements → is_wanted (network_of n) x ≡ true → arrivals (network_of n) x ≡ 1 }
-    ensures solution { (n : Net) (ts : List Tick) → IsChecked n → DirectOnly (network_of n) → NoLoop (network_of n)
+    ensures solution { (n : Net) (ts : List Tick) → IsChecked n → AreOfKinds n → NoLoop (network_of n)
         → (vs : List (Valuation ℕ)) × Solves (network_of n) [] ts vs × ((ws : List (Valuation ℕ)) → Solves (network_of n) [] ts ws → AgreeAll (network_of n) ws vs) }
 {}

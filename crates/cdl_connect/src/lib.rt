@@ -8,5 +8,5 @@ mod net;
 
 pub use check::{CheckedNet, sink_end, source_end};
 pub use faults::{NetFault, NetRefusal};
-pub use laws::{checked_has_one, first_by_place, net_is_a_network};
+pub use laws::{checked_has_one, first_by_place, net_is_a_network, only_direct_inputs_count};
 pub use net::{Body, Net, NetElement, NetInstance, RawWire};

@@ -1,8 +1,11 @@
 // A net of a short text.
+ghost use Rattle.cdl_kinds.specs.Conditions.{Fits};
+
+use crate::delays::{pre, unit_delay};
 use cdl_connect::{Body, Net, NetElement, NetInstance, RawWire};
 use cdl_kinds::{Kind, check};
 use cdl_source::{List, OutOfMemory, Text};
-use cdl_values::ValueType;
+use cdl_values::{Array, ValueType};
 use std::alloc::Global;
 
 // A number: 0 to 9, and then a for 10.
@@ -24,17 +27,24 @@ fn text(alloc: Global, bytes: &[u8]) -> Result<Text, OutOfMemory> {
     Ok(text)
 }
 
-// The block of a sign: `c` is a composite, `n` a Not, `a` an And.
-fn body(alloc: Global, sign: u8) -> Body {
-    let kind = match sign {
-        b'n' => Kind::LogicalNot,
-        b'a' => Kind::LogicalAnd,
-        _ => return Body::Composite,
-    };
-    match check(kind, List::new(alloc)) {
+fn block(kind: Kind, values: List<Array>) -> Body
+    requires { Fits kind values }
+{
+    match check(kind, values) {
         Ok(params) => Body::Elementary { kind, params },
         Err(_) => Body::Composite,
     }
+}
+
+// The block of a sign: `c` is a composite, `n` a Not, `a` an And, `p` a Pre, `u` a UnitDelay.
+fn body(alloc: Global, sign: u8) -> Result<Body, OutOfMemory> {
+    Ok(match sign {
+        b'n' => block(Kind::LogicalNot, List::new(alloc)),
+        b'a' => block(Kind::LogicalAnd, List::new(alloc)),
+        b'p' => block(Kind::LogicalPre, pre(alloc)?),
+        b'u' => block(Kind::DiscreteUnitDelay, unit_delay(alloc)?),
+        _ => Body::Composite,
+    })
 }
 
 fn value_type(sign: u8) -> ValueType {
@@ -70,7 +80,7 @@ fn add(alloc: Global, net: &mut Net, word: &[u8]) -> Result<(), OutOfMemory> {
             } else {
                 Some(number(*parent))
             },
-            body: body(alloc, *block),
+            body: body(alloc, *block)?,
             first: place(net.elements.items().len()),
             count: number(*count),
         }),

@@ -2,6 +2,7 @@
 #![tactic(auto)]
 
 mod builder;
+mod delays;
 mod numbers;
 
 pub use builder::net_of;

@@ -1,5 +1,5 @@
 use crate::{indexed, net_of};
-use cdl_schedule::{OrderFault, order};
+use cdl_schedule::{OrderFault, Step, order};
 use std::alloc::Global;
 use std::test::Fail;
 
@@ -14,7 +14,14 @@ only before a loop: c-1 iB n02 iB oB a03 iB iB oB w001 w023 w054 = loop at 2
 the loop's least instance in the middle: c-0 n02 iB oB n02 iB oB n02 iB oB w030 w034 w052 = loop at 2
 two loops, the first one's wires last: c-0 n02 iB oB n02 iB oB w032 w010 = loop at 1
 a loop through a part: c-0 c02 iB oB n12 iB oB w010 w102 w131 = loop at 1
-a loop in a part: c-0 c00 n12 iB oB w110 = loop at 2";
+a loop in a part: c-0 c00 n12 iB oB w110 = loop at 2
+a Pre that reads its own output: c-0 p02 iB oB w010 = order 1
+a loop through a Pre: c-0 n02 iB oB p02 iB oB w012 w030 = order 2 1
+a loop through a UnitDelay: c-0 u02 iR oR w010 = order 1
+a loop beside one through a Pre: c-0 p02 iB oB n02 iB oB w010 w032 = loop at 2
+behind a loop and before a Pre: c-0 n02 iB oB p02 iB oB w010 w012 = loop at 1
+a Pre behind what it is read by: c-1 oB n02 iB oB p02 iB oB w041 w023 w002 = order 2 1
+through one input of an And, not through the other: c-0 a03 iB iB oB p02 iB oB w023 w040 w021 = loop at 1";
 
 // The plan of the net of this text, or why there is none.
 fn plan_of(alloc: Global, words: &str) -> Result<String, Fail> {
@@ -29,6 +36,14 @@ fn plan_of(alloc: Global, words: &str) -> Result<String, Fail> {
         Ok(plan) => {
             if plan.net().net().wires.items().len() != wires {
                 return Ok(String::from_str(alloc, "another net")?);
+            }
+            let emits = plan
+                .steps()
+                .iter()
+                .filter(|step| matches!(**step, Step::Emit { .. }))
+                .count();
+            if emits != plan.list().len() {
+                return Ok(String::from_str(alloc, "other steps")?);
             }
             let mut text = String::from_str(alloc, "order")?;
             for instance in plan.list() {

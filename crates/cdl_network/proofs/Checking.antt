@@ -1,6 +1,7 @@
 -- In a network that breaks no rule each element has one origin.
 use Rattle.std.proofs.Common.{ℕ, zero, suc, ◌≡◌, ◌⊎◌, ◌&&◌, ◌||◌, refl, sym, ap, ◌∙◌, subst, arith, Bool, true, false, cond, not, inl, inr, List, [], ◌∷◌, filter, length, Option, Some, None, slice_get}
 use Rattle.std.proofs.lemmas.Bool.{false≢true}
+use Rattle.cdl_source.specs.declared.rules.TheConstants.{TWO_SOURCES_OR_SINKS}
 use Rattle.cdl_network.specs.Closed.{Closed, Shaped}
 use Rattle.cdl_network.specs.Dependence.{From, HasOrigin, NoLoop, Origin, Out, Row, Walk, is_of, is_root_input, outputs_of, root_inputs}
 use Rattle.cdl_network.specs.Lists.{Apart, In, Tells, count, first_of, found, has_some}
@@ -67,13 +68,13 @@ slice_in x [] i = absurd i
 slice_in x (y ∷ ys) (inl e) = (0, ap Some (sym e))
 slice_in x (y ∷ ys) (inr i) = let r = slice_in x ys i in (suc r.0, r.1)
 
-apart_filter : {A : Type 0} (f : A → Bool) (xs : List A) → Apart xs → Apart (filter f xs)
+pub apart_filter : {A : Type 0} (f : A → Bool) (xs : List A) → Apart xs → Apart (filter f xs)
 apart_filter f [] a = tt
 apart_filter f (x ∷ xs) a =
     let r = apart_filter f xs a.1 in
     elim (f x) as (λ b. Apart (cond b (x ∷ filter f xs) (filter f xs))) [ true ↦ (λ i. a.0 (in_filter f x xs i), r) | false ↦ r ]
 
-once : {A : Type 0} (xs : List A) (j k : ℕ) (x : A) → Apart xs → slice_get xs j ≡ Some x → slice_get xs k ≡ Some x → j ≡ k
+pub once : {A : Type 0} (xs : List A) (j k : ℕ) (x : A) → Apart xs → slice_get xs j ≡ Some x → slice_get xs k ≡ Some x → j ≡ k
 once [] j k x a e f = absurd (cc)
 once (y ∷ ys) zero zero x a e f = refl
 once (y ∷ ys) zero (suc k) x a e f = let q : y ≡ x = cc in absurd (a.0 (subst (λ z. In z ys) (sym q) (in_slice ys k x f)))
@@ -111,7 +112,7 @@ sink_wanted n s x z h e = bool_cases (n.input x)
     ap (λ b. cond b (has_some (n.parent (n.owner x))) (not (n.elementary (n.owner x)))) t
     ∙ ap not (ap n.elementary q ∙ e))
 
-either_goes : (a b : Bool) (o : Option ℕ) → cond {A = Option ℕ} (a || b) o (Some 43) ≡ None → (a ≡ false) → b ≡ true
+either_goes : (a b : Bool) (o : Option ℕ) → cond {A = Option ℕ} (a || b) o (Some TWO_SOURCES_OR_SINKS) ≡ None → (a ≡ false) → b ≡ true
 either_goes true b o h e = absurd (false≢true (sym e))
 either_goes false true o h e = refl
 either_goes false false o h e = absurd (cc)

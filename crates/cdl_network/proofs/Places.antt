@@ -14,7 +14,7 @@ use Rattle.cdl_network.proofs.Checking.{slice_in}
 use Rattle.cdl_network.proofs.Numbers.{number_place}
 use Rattle.std.proofs.lemmas.Option.{slice_get_within}
 
-numbers_split : (a n b c : ℕ) → n ≡ b + c → numbers a n ≡ numbers a b ++ numbers (a + b) c
+pub numbers_split : (a n b c : ℕ) → n ≡ b + c → numbers a n ≡ numbers a b ++ numbers (a + b) c
 numbers_split a n zero c e = let x : n ≡ c = omega arith in let y : a ≡ a + 0 = omega arith in ap (numbers a) x ∙ ap (λ z. numbers z c) y
 numbers_split a zero (suc b) c e = absurd (omega arith)
 numbers_split a (suc n) (suc b) c e =
@@ -31,25 +31,50 @@ cond_append : {A : Type 0} (t : Bool) (x : A) (xs ys : List A) → cond t (x ∷
 cond_append true x xs ys = refl
 cond_append false x xs ys = refl
 
-filter_both : {A : Type 0} (f : A → Bool) (xs ys : List A) → filter f (xs ++ ys) ≡ filter f xs ++ filter f ys
+pub filter_both : {A : Type 0} (f : A → Bool) (xs ys : List A) → filter f (xs ++ ys) ≡ filter f xs ++ filter f ys
 filter_both f [] ys = refl
 filter_both f (x ∷ xs) ys =
     let r = filter_both f xs ys in
     rw r (cond_append (f x) x (filter f xs) (filter f ys))
 
-filter_no : {A : Type 0} (f : A → Bool) (xs : List A) → ((x : A) → In x xs → f x ≡ false) → filter f xs ≡ []
+pub filter_no : {A : Type 0} (f : A → Bool) (xs : List A) → ((x : A) → In x xs → f x ≡ false) → filter f xs ≡ []
 filter_no f [] h = refl
 filter_no f (x ∷ xs) h =
     let a = h x (inl refl) in
     let r = filter_no f xs (λ y i. h y (inr i)) in
     rw (a, r) refl
 
-filter_like : {A : Type 0} (f g : A → Bool) (xs : List A) → ((x : A) → In x xs → f x ≡ g x) → filter f xs ≡ filter g xs
+pub filter_like : {A : Type 0} (f g : A → Bool) (xs : List A) → ((x : A) → In x xs → f x ≡ g x) → filter f xs ≡ filter g xs
 filter_like f g [] h = refl
 filter_like f g (x ∷ xs) h =
     let a = h x (inl refl) in
     let r = filter_like f g xs (λ y i. h y (inr i)) in
     rw (a, r) refl
+
+filter_all : {A : Type 0} (f : A → Bool) (xs : List A) → ((x : A) → In x xs → f x ≡ true) → filter f xs ≡ xs
+filter_all f [] h = refl
+filter_all f (x ∷ xs) h =
+    let a = h x (inl refl) in
+    let r = filter_all f xs (λ y i. h y (inr i)) in
+    rw (a, r) refl
+
+append_none : {A : Type 0} (l : List A) → l ++ [] ≡ l
+append_none [] = refl
+append_none (x ∷ l) = ap (λ z. x ∷ z) (append_none l)
+
+-- the first so many numbers pass, and no other
+pub filter_front : (q : ℕ → Bool) (s n a b : ℕ) → n ≡ a + b → ((x : ℕ) → s ≤ x → x < s + a → q x ≡ true) → ((x : ℕ) → s + a ≤ x → x < s + a + b → q x ≡ false) → filter q (numbers s n) ≡ numbers s a
+filter_front q s n a b e some none =
+    let front = filter_all q (numbers s a) (λ x i. let r = in_numbers s a x i in some x r.0 r.1) in
+    let back = filter_no q (numbers (s + a) b) (λ x i. let r = in_numbers (s + a) b x i in none x r.0 r.1) in
+    ap (filter q) (numbers_split s n a b e) ∙ filter_both q (numbers s a) (numbers (s + a) b) ∙ ap (λ l. l ++ filter q (numbers (s + a) b)) front ∙ ap (λ l. numbers s a ++ l) back ∙ append_none (numbers s a)
+
+-- those behind the first so many numbers pass, and no other
+pub filter_back : (q : ℕ → Bool) (s n a b : ℕ) → n ≡ a + b → ((x : ℕ) → s ≤ x → x < s + a → q x ≡ false) → ((x : ℕ) → s + a ≤ x → x < s + a + b → q x ≡ true) → filter q (numbers s n) ≡ numbers (s + a) b
+filter_back q s n a b e none some =
+    let front = filter_no q (numbers s a) (λ x i. let r = in_numbers s a x i in none x r.0 r.1) in
+    let back = filter_all q (numbers (s + a) b) (λ x i. let r = in_numbers (s + a) b x i in some x r.0 r.1) in
+    ap (filter q) (numbers_split s n a b e) ∙ filter_both q (numbers s a) (numbers (s + a) b) ∙ ap (λ l. l ++ filter q (numbers (s + a) b)) front ∙ back
 
 -- what p picks is a window
 pub window : (p q : ℕ → Bool) (len first size : ℕ) → first + size ≤ len → ((x : ℕ) → x < first → p x ≡ false) → ((x : ℕ) → first ≤ x → x < first + size → p x ≡ true) → ((x : ℕ) → first + size ≤ x → x < len → p x ≡ false) → filter (λ x. p x && q x) (numbers 0 len) ≡ filter q (numbers first size)

@@ -1,6 +1,7 @@
 -- The rules on wires and elements, each by its number, and the first that is broken.
 use Rattle.std.specs.Prelude.{ℕ, zero, suc, ◌+◌, ◌==◌, ◌&&◌, ◌||◌, Bool, true, false, cond, not, List, [], ◌∷◌, length, map, sum, filter, Option, Some, None}
 use Rattle.std.specs.Str.{bytes_eq}
+use Rattle.cdl_source.specs.declared.rules.TheConstants.{TWO_SOURCES_OR_SINKS, TYPES_DIFFER, MORE_THAN_ONE_SOURCE, NO_SOURCE, UNITS_DIFFER}
 use Rattle.cdl_values.specs.declared.value.ValueType.{ValueType}
 use Rattle.cdl_values.specs.declared.value.ValueType.TheVariants.{Boolean, Integer, Real, Str, Enumeration}
 use Rattle.cdl_network.specs.Lists.{count, first_of, has_some}
@@ -65,8 +66,8 @@ units_differ n x y = (has_unit n x && has_unit n y) && not (bytes_eq (n.unit x) 
 abbrev pub wire_fault : {I E : Type 0} → Network I E → Wire I E → Option ℕ
 wire_fault n w =
     cond (goes n w.scope w.left w.right || goes n w.scope w.right w.left)
-    (cond (same_type (n.value_type w.left) (n.value_type w.right)) (cond (units_differ n w.left w.right) (Some 48) None) (Some 44))
-    (Some 43)
+    (cond (same_type (n.value_type w.left) (n.value_type w.right)) (cond (units_differ n w.left w.right) (Some UNITS_DIFFER) None) (Some TYPES_DIFFER))
+    (Some TWO_SOURCES_OR_SINKS)
 
 -- how many wires end at an element
 abbrev pub arrivals : {I E : Type 0} → Network I E → E → ℕ
@@ -79,9 +80,9 @@ is_wanted n x = cond (n.input x) (has_some (n.parent (n.owner x))) (not (n.eleme
 -- C45: a sink has more than one source; C46: it has none
 abbrev pub fault_by : Bool → ℕ → Option ℕ
 fault_by false k = None
-fault_by true zero = Some 46
+fault_by true zero = Some NO_SOURCE
 fault_by true (suc zero) = None
-fault_by true (suc (suc k)) = Some 45
+fault_by true (suc (suc k)) = Some MORE_THAN_ONE_SOURCE
 
 abbrev pub element_fault : {I E : Type 0} → Network I E → E → Option ℕ
 element_fault n x = fault_by (is_wanted n x) (arrivals n x)

@@ -1,5 +1,5 @@
 -- Files have no more names than tokens.
-use Rattle.std.proofs.Common.{◌≡◌, ℕ, suc, ◌+◌, ◌≤◌, List, [], ◌∷◌, ◌++◌, length, map, Option, arith, rules, length-append}
+use Rattle.std.proofs.Common.{◌≡◌, suc, ◌+◌, ◌≤◌, List, [], ◌∷◌, ◌++◌, length, Option, arith, rules, length-append}
 use Rattle.cdl_tree.specs.declared.name.Ident.{Ident}
 use Rattle.cdl_tree.specs.declared.name.Name.{Name}
 use Rattle.cdl_tree.specs.declared.class.Item.{Item}
@@ -9,7 +9,7 @@ use Rattle.cdl_tree.specs.declared.class.Closing.{Closing}
 use Rattle.cdl_tree.specs.declared.class.FileTree.{FileTree}
 use Rattle.cdl_tree.specs.Words.{Word}
 use Rattle.cdl_tree.specs.Trees.{the_ident, the_block, the_package, the_enumeration}
-use Rattle.cdl_tree.specs.Grammar.{BlockParts, no_block_part, block_section, block_note, block_clause, LiteralOf, literal, Literals, one_literal, more_literals, ClassOf, a_block, a_package, an_enumeration, PackageParts, no_package_part, package_section, package_note, package_constant, package_class, Within, no_within, within_top, within, Classes, one_class, more_classes, FileOf, file}
+use Rattle.cdl_tree.specs.Grammar.{BlockParts, no_block_part, block_section, block_note, block_clause, literal, Literals, one_literal, more_literals, ClassOf, a_block, a_package, an_enumeration, PackageParts, no_package_part, package_section, package_note, package_constant, package_class, Within, no_within, within_top, within, Classes, one_class, more_classes, FileOf, file}
 use Rattle.cdl_expressions.proofs.Counted.{total_behind, beside}
 use Rattle.cdl_clauses.specs.Names.{names_of, names_of_item, names_of_statement}
 use Rattle.cdl_clauses.proofs.Counted.{names_joined, clause_counted, constant_counted, equation_counted}

@@ -10,7 +10,7 @@ use Rattle.cdl_tree.specs.declared.class.ClassTree.{ClassTree, the_lemmas as cla
 use Rattle.cdl_tree.specs.declared.class.Closing.{Closing}
 use Rattle.cdl_tree.specs.declared.class.FileTree.{FileTree}
 use Rattle.cdl_tree.specs.Words.{Word}
-use Rattle.cdl_tree.specs.Trees.{the_ident, the_block, the_package, the_enumeration}
+use Rattle.cdl_tree.specs.Trees.{the_block, the_package, the_enumeration}
 use Rattle.cdl_tree.specs.Proper.{is_some, all_of}
 use Rattle.cdl_tree.specs.Formed.{formed_ident}
 use Rattle.cdl_tree.specs.FormedFiles.{formed_item, formed_statement, formed_class, formed_within, formed_file}

@@ -7,3 +7,4 @@ pub mod Top
 pub mod Formed
 pub mod Counted
 pub mod Verdicts
+pub mod Closings

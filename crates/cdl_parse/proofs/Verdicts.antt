@@ -1,5 +1,5 @@
 -- Of what may be said of a list of tokens one alone holds, and a refusal has one place.
-use Rattle.std.proofs.Common.{◌≡◌, ℕ, ◌≤◌, Bool, true, false, List, [], ◌∷◌, ◌++◌, Option, Some, None, refl, sym, ap, ◌∙◌, subst, arith, if◌then◌else◌}
+use Rattle.std.proofs.Common.{◌≡◌, ℕ, Bool, true, false, List, [], ◌∷◌, ◌++◌, Some, None, refl, sym, ap, ◌∙◌, arith, if◌then◌else◌}
 use Rattle.std.proofs.lemmas.Slice.Eq.{bytes_eq-Decides}
 use Rattle.std.specs.Str.{bytes_eq}
 use Rattle.cdl_source.specs.declared.place.Place.{Place}
@@ -9,7 +9,7 @@ use Rattle.cdl_tree.specs.declared.class.Closing.{Closing}
 use Rattle.cdl_tree.specs.Words.{Word}
 use Rattle.cdl_tree.specs.Grammar.{FileOf, IsClosed, Longest}
 use Rattle.cdl_reading.specs.Reading.{word_of}
-use Rattle.cdl_parse.specs.Classes.{wrong_end, or_then}
+use Rattle.cdl_parse.specs.Classes.{or_then}
 use Rattle.cdl_parse.specs.Verdict.{AllClosed, Closes, begin_of, Stuck, Misnamed}
 use Rattle.cdl_parse.proofs.Ends.{first_wrong, wrong_in_turn}
 use Rattle.cdl_parse.proofs.Longest.{closed_file, is_file}

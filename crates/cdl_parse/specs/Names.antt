@@ -1,5 +1,5 @@
 -- How many names a file has: the package that it is in, each declared class, item and literal, and those in declarations and statements.
-use Rattle.std.specs.Prelude.{ℕ, suc, ◌+◌, List, length, map, Option, Some, None}
+use Rattle.std.specs.Prelude.{ℕ, suc, ◌+◌, length, Option, Some, None}
 use Rattle.cdl_tree.specs.declared.name.Name.{Name}
 use Rattle.cdl_tree.specs.declared.class.ClassTree.{ClassTree, fold-ClassTree}
 use Rattle.cdl_tree.specs.declared.class.ClassTree.TheOpen.{ClassTree-F}

@@ -7,7 +7,7 @@ ghost use Rattle.cdl_parse.specs.Classes as spec;
 use crate::closed::{ClosedClass, FileParts, PackageParts};
 use cdl_clauses::{clause, constant, equation_part, note_clause, tail};
 use cdl_expressions::text;
-use cdl_reading::{Cursor, Fault};
+use cdl_reading::{Cursor, Fault, list};
 use cdl_source::List;
 use cdl_tree::{ClassTree, Ident, Item, Terminal};
 use std::alloc::Global;
@@ -141,18 +141,12 @@ fn literal(alloc: Global, tokens: &mut Cursor<'_>, most: usize) -> Result<Ident,
 }
 
 // literal { "," literal }
+#[tactic(auto, unfolding(crate::specs::Classes::literal_list))]
 fn literals(alloc: Global, tokens: &mut Cursor<'_>, most: usize) -> Result<List<Ident>, Fault>
     ensures { Gives (spec.literal_list most tokens.old) result tokens.new }
 {
-    let mut found = List::new(alloc);
-    found.push(literal(alloc, tokens, most)?)?;
-    for _turn in 0..most {
-        if !tokens.eat(Terminal::Comma) {
-            return Ok(found);
-        }
-        found.push(literal(alloc, tokens, most)?)?;
-    }
-    Ok(found)
+    let literal = |tokens: &mut Cursor<'_>| literal(alloc, tokens, most);
+    list(tokens, Terminal::Comma, most, &literal, List::new(alloc))
 }
 
 // "type" IDENT "=" "enumeration" "(" literal { "," literal } ")" tail

@@ -19,6 +19,7 @@ use crate::file::whole_file;
 use cdl_lex::Tokens;
 use cdl_reading::{Cursor, Fault};
 use cdl_source::Place;
+use cdl_source::rules::{SYNTAX, WRONG_END_NAME};
 use cdl_tree::FileTree;
 pub use law::{one_tree, one_verdict};
 use std::alloc::Global;
@@ -31,12 +32,6 @@ pub enum ParseFault {
     /// No memory was left for the tree.
     OutOfMemory,
 }
-
-// C7: the tokens are no file.
-const SYNTAX: u32 = 7;
-
-// C8: the identifier behind `end` is not that of its class.
-const WRONG_NAME: u32 = 8;
 
 /// The tree of the tokens of a file, where they are a sentence of the grammar (docs/LANGUAGE.md) and each identifier behind
 /// an `end` is that of its class. There is one.
@@ -62,7 +57,7 @@ pub fn parse(alloc: Global, tokens: &Tokens) -> Result<FileTree, ParseFault>
     match whole_file(alloc, &mut cursor, tokens.len()) {
         Ok(ClosedFile { tree, wrong }) => match wrong {
             None => Ok(tree),
-            Some(byte) => Err(broken(tokens, WRONG_NAME, byte)),
+            Some(byte) => Err(broken(tokens, WRONG_END_NAME, byte)),
         },
         Err(Fault::Syntax) => {
             let before = tokens.len().saturating_sub(cursor.left());

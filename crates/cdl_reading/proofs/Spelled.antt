@@ -8,8 +8,8 @@ use Rattle.std.proofs.lemmas.Str.{IsUtf8-between, IsCharBoundary-before_ascii, I
 use Rattle.std.specs.List.{list_all}
 use Rattle.std.specs.Str.{bytes_eq, IsUtf8, IsCharBoundary}
 use Rattle.cdl_source.specs.Identifiers.{is_digit, is_word_byte, is_initial, is_keyword, is_identifier}
-use Rattle.cdl_source.specs.declared.place.Sort.{Sort}
-use Rattle.cdl_source.specs.declared.place.Sort.TheVariants as sort
+use Rattle.cdl_source.specs.declared.place.TokenSort.{TokenSort}
+use Rattle.cdl_source.specs.declared.place.TokenSort.TheVariants as sort
 use Rattle.cdl_source.specs.declared.place.Token.{Token}
 use Rattle.cdl_decimal.specs.Spells.{AllDigits, IsDigit}
 use Rattle.cdl_lex.specs.Spellings.{Bytes, Spelling, identifier, keyword, integer, real, string, symbol, pair}
@@ -101,7 +101,7 @@ quoted_utf8 bytes start end b u order within e =
 
 -- ---- tokens
 
-spelled_by : (bytes : Bytes) (t : Token) (text : Bytes) (sort : Sort) → IsUtf8 bytes → LiesWithin bytes t → text_of bytes t ≡ text → Spelling text sort → (IsPast sort text → ⊥) → is_spelled_as (terminal_of sort text) text ≡ true
+spelled_by : (bytes : Bytes) (t : Token) (text : Bytes) (sort : TokenSort) → IsUtf8 bytes → LiesWithin bytes t → text_of bytes t ≡ text → Spelling text sort → (IsPast sort text → ⊥) → is_spelled_as (terminal_of sort text) text ≡ true
 spelled_by bytes t _ _ u within e (identifier c cs i all plain) fits = is_identifier_of c cs i all plain fits
 spelled_by bytes t _ _ u within e (keyword text k) fits = keyword_spelled text
 spelled_by bytes t _ _ u within e (integer ds some all) fits = integer_begins ds some all

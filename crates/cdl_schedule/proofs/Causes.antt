@@ -208,3 +208,8 @@ pub rows_whole : (n : Net) (i k : ℕ) (first edges : List ℕ) → AreRows (Pre
 rows_whole n i k first edges r a b e =
     let q : length n.elements + i ≡ length n.elements + length n.instances = omega (arith, a, b, e) in
     subst (λ v. AreRows (Precedes n) (vertex_count n) v 0 first edges) q r
+
+pub rows_of_instances : (n : Net) (x k : ℕ) (first edges : List ℕ) → AreRows (Precedes n) (vertex_count n) x 0 first edges → x ≤ k → k ≤ x → k ≡ length n.elements → AreRows (Precedes n) (vertex_count n) (length n.elements + 0) 0 first edges
+rows_of_instances n x k first edges r a b e =
+    let q : x ≡ length n.elements + 0 = omega (arith, a, b, e) in
+    subst (λ v. AreRows (Precedes n) (vertex_count n) v 0 first edges) q r

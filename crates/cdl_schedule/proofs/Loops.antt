@@ -31,7 +31,7 @@ number_at n k h = let e : 0 + k ≡ k = omega arith in slice_numbers 0 n k h ∙
 pub has_inside : (n : Net) (x : ℕ) (c : Origin ℕ ℕ) → IsChecked n → HasOrigin (network_of n) x c → x < length n.elements
 has_inside n x c k h = below_all (length n.elements) x (origin_inside (network_of n) x c (net_closed n k.indexed) h)
 
-reads_are : (n : Net) (x : ℕ) (c : Origin ℕ ℕ) (s : ℕ) → IsChecked n → HasOrigin (network_of n) x c → Reads (network_of n) c s → s < length n.elements
+pub reads_are : (n : Net) (x : ℕ) (c : Origin ℕ ℕ) (s : ℕ) → IsChecked n → HasOrigin (network_of n) x c → Reads (network_of n) c s → s < length n.elements
 reads_are n x c s k h r = below_all (length n.elements) s (reads_inside (network_of n) x c s (net_closed n k.indexed) h r)
 
 pub direct_are : (n : Net) (i x : ℕ) → In x (direct_of (network_of n) i) → x < length n.elements

@@ -1,3 +1,4 @@
 pub mod NetPlan
+pub mod Passes
 pub mod Plans
 pub mod inner

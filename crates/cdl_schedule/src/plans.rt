@@ -4,11 +4,13 @@ ghost use Rattle.cdl_search.specs.Order.{IsOrder, IsSearchFault};
 ghost use Rattle.cdl_network.specs.Dependence.{NoLoop};
 ghost use Rattle.cdl_connect.specs.Faults.{IsChecked};
 ghost use Rattle.cdl_connect.specs.Nets.{network_of};
+ghost use Rattle.cdl_schedule.specs.Passes.{IsPass};
 ghost use Rattle.cdl_schedule.specs.Plans.{IsPlan, IsOrderFault};
-ghost use Rattle.cdl_schedule.specs.inner.Rows.{AreRows, Precedes, vertex_count, added};
+ghost use Rattle.cdl_schedule.specs.inner.Rows.{AreRows, AreSources, Precedes, vertex_count, added};
 ghost use Rattle.cdl_schedule.specs.inner.Listed.{Listed, is_listed};
 
-use crate::rows::{Rows, is_elementary, rows_of};
+use crate::rows::{Rows, is_elementary, rows_of, sources};
+use crate::steps::{Step, steps_in};
 use cdl_connect::{CheckedNet, Net};
 use cdl_search::{SearchFault, order_of};
 use std::alloc::{AllocError, Global};
@@ -34,6 +36,7 @@ pub struct OrderRefusal {
 pub struct Plan {
     net: CheckedNet,
     list: Vec<u32>,
+    steps: Vec<Step>,
 }
 
 impl Model for Plan {
@@ -45,9 +48,10 @@ impl Model for Plan {
 
     ghost view = { λ p. record { net = p.net; list = p.list.items } };
 
+    ghost use Rattle.cdl_schedule.specs.Passes.{IsPass};
     ghost use Rattle.cdl_schedule.specs.Plans.{IsPlan};
 
-    ghost invariant = { λ p. IsPlan p.net p.list.items × NoLoop (network_of p.net) };
+    ghost invariant = { λ p. IsPlan p.net p.list.items × NoLoop (network_of p.net) × IsPass p.net p.steps.items };
 }
 
 fn listed(net: &Net, v: usize) -> bool
@@ -106,19 +110,48 @@ fn fault_of(net: &Net, fault: SearchFault) -> OrderFault
     }
 }
 
-// The list of a net's plan, or why there is none.
-fn list_of(alloc: Global, net: &Net) -> Result<Vec<u32>, OrderFault>
+// What a plan has beside its net.
+#[derive(Debug, Drop)]
+struct Parts {
+    list: Vec<u32>,
+    steps: Vec<Step>,
+}
+
+// The list and the steps of an order.
+fn parts_in(
+    alloc: Global,
+    net: &Net,
+    sources: &[usize],
+    order: &[usize],
+) -> Result<Parts, AllocError>
+    requires checked { IsChecked net.now }
+    requires sources { AreSources net.now (length net.now.wires) sources.now }
+    requires order { IsOrder (Precedes net.now) (vertex_count net.now) order.now }
+    ensures plan { IfOk result (λ p. IsPlan net.now p.list.items) }
+    ensures pass { IfOk result (λ p. IsPass net.now p.steps.items) }
+{
+    let list = instances_in(alloc, net, order)?;
+    let steps = steps_in(alloc, net, sources, order)?;
+    Ok(Parts { list, steps })
+}
+
+// What the plan of a net has, or why there is none.
+fn parts_of(alloc: Global, net: &Net) -> Result<Parts, OrderFault>
     requires { IsChecked net.now }
-    ensures plan { IfOk result (λ v. IsPlan net.now v.items) }
+    ensures plan { IfOk result (λ p. IsPlan net.now p.list.items) }
+    ensures pass { IfOk result (λ p. IsPass net.now p.steps.items) }
     ensures none { OnOk result (NoLoop (network_of net.now)) }
     ensures fault { IfErr result (IsOrderFault net.now) }
 {
-    let Ok(rows) = rows_of(alloc, net) else {
+    let Ok(sources) = sources(alloc, net) else {
+        return Err(OrderFault::OutOfMemory);
+    };
+    let Ok(rows) = rows_of(alloc, net, &sources) else {
         return Err(OrderFault::OutOfMemory);
     };
     match ordered(alloc, &rows, net) {
-        Ok(order) => match instances_in(alloc, net, order.as_slice()) {
-            Ok(list) => Ok(list),
+        Ok(order) => match parts_in(alloc, net, &sources, order.as_slice()) {
+            Ok(parts) => Ok(parts),
             Err(_) => Err(OrderFault::OutOfMemory),
         },
         Err(fault) => Err(fault_of(net, fault)),
@@ -135,8 +168,12 @@ pub fn order(alloc: Global, net: CheckedNet) -> Result<Plan, OrderRefusal>
     ensures back { IfErr result (λ r. r.net ≡ net) }
     ensures fault { IfErr result (λ r. IsOrderFault net r.fault) }
 {
-    match list_of(alloc, net.net()) {
-        Ok(list) => Ok(Plan { net, list }),
+    match parts_of(alloc, net.net()) {
+        Ok(parts) => Ok(Plan {
+            net,
+            list: parts.list,
+            steps: parts.steps,
+        }),
         Err(fault) => Err(OrderRefusal { net, fault }),
     }
 }
@@ -156,5 +193,12 @@ impl Plan {
         ensures plan { IsPlan self.now.net self.now.list }
     {
         self.list.as_slice()
+    }
+
+    /// The steps of a tick: each element is written once, behind those that write what its step reads. It takes no memory.
+    pub fn steps(&self) -> &[Step]
+        ensures pass { IsPass self.now.net result.now }
+    {
+        self.steps.as_slice()
     }
 }

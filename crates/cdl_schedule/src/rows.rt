@@ -28,7 +28,7 @@ fn zeros(alloc: Global, n: usize) -> Result<Vec<usize>, AllocError>
 }
 
 // The source of each sink.
-fn sources(alloc: Global, net: &Net) -> Result<Vec<usize>, AllocError>
+pub(crate) fn sources(alloc: Global, net: &Net) -> Result<Vec<usize>, AllocError>
     requires { IsChecked net.now }
     ensures { IfOk result (λ v. AreSources net.now (length net.now.wires) v.items) }
 {
@@ -43,8 +43,8 @@ fn sources(alloc: Global, net: &Net) -> Result<Vec<usize>, AllocError>
     Ok(sources)
 }
 
-// All kinds but the two delays take their inputs at once.
-fn is_direct_kind(kind: Kind) -> bool
+/// Whether the outputs of a block of the kind rest on its inputs at the same tick. So do those of all kinds but the two delays.
+pub fn is_direct_kind(kind: Kind) -> bool
     ensures { result ≡ (row kind).direct }
 {
     !matches!(kind, Kind::LogicalPre | Kind::DiscreteUnitDelay)
@@ -69,7 +69,7 @@ pub(crate) fn is_elementary(body: &Body) -> bool
 }
 
 // The vertex from which an element has its value.
-fn cause(net: &Net, sources: &[usize], x: usize) -> Option<usize>
+pub(crate) fn cause(net: &Net, sources: &[usize], x: usize) -> Option<usize>
     requires checked { IsChecked net.now }
     requires inside { x < length net.now.elements }
     requires size { length sources.now ≡ length net.now.elements }
@@ -152,17 +152,17 @@ fn add_instance(rows: &mut Rows, net: &Net, i: usize) -> Result<(), AllocError>
 }
 
 // The rows of a net.
-pub(crate) fn rows_of(alloc: Global, net: &Net) -> Result<Rows, AllocError>
-    requires { IsChecked net.now }
+pub(crate) fn rows_of(alloc: Global, net: &Net, sources: &[usize]) -> Result<Rows, AllocError>
+    requires checked { IsChecked net.now }
+    requires sources { AreSources net.now (length net.now.wires) sources.now }
     ensures { IfOk result (λ r. AreRows (Precedes net.now) (vertex_count net.now) (vertex_count net.now) 0 r.first.items r.edges.items) }
 {
-    let sources = sources(alloc, net)?;
     let mut rows = Rows {
         first: zeros(alloc, 1)?,
         edges: Vec::new(alloc),
     };
     for x in 0..net.elements.items().len() {
-        add_element(&mut rows, net, &sources, x)?;
+        add_element(&mut rows, net, sources, x)?;
     }
     for i in 0..net.instances.items().len() {
         add_instance(&mut rows, net, i)?;

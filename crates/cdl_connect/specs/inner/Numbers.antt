@@ -1,5 +1,6 @@
 -- The numbers of rules, and the fault of a rule at a place.
 use Rattle.std.specs.Prelude.{ℕ, ◌==◌, List, count_by}
+use Rattle.cdl_source.specs.declared.rules.TheConstants.{TWO_SOURCES_OR_SINKS, TYPES_DIFFER, MORE_THAN_ONE_SOURCE, NO_SOURCE, UNITS_DIFFER}
 use Rattle.cdl_network.specs.Rules.{sink_of}
 use Rattle.cdl_connect.specs.declared.net.Net.{Net}
 use Rattle.cdl_connect.specs.declared.net.RawWire.{RawWire}
@@ -12,13 +13,13 @@ use Rattle.cdl_connect.specs.declared.faults.NetFault.TheVariants as nets
 use Rattle.cdl_connect.specs.Nets.{network_of, wire_in}
 
 abbrev pub wire_rule : WireFault → ℕ
-wire_rule wires.SameSide = 43
-wire_rule wires.TypesDiffer = 44
-wire_rule wires.UnitsDiffer = 48
+wire_rule wires.SameSide = TWO_SOURCES_OR_SINKS
+wire_rule wires.TypesDiffer = TYPES_DIFFER
+wire_rule wires.UnitsDiffer = UNITS_DIFFER
 
 abbrev pub sink_rule : SinkFault → ℕ
-sink_rule sinks.ManySources = 45
-sink_rule sinks.NoSource = 46
+sink_rule sinks.ManySources = MORE_THAN_ONE_SOURCE
+sink_rule sinks.NoSource = NO_SOURCE
 
 abbrev pub fault_at_wire : WireFault → ℕ → NetFault
 fault_at_wire wires.SameSide k = nets.SameSide k

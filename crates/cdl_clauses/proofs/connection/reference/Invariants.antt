@@ -1,8 +1,5 @@
-use Rattle.std.proofs.Common.{◌≡◌, ◌-◌}
-use Rattle.cdl_tree.specs.declared.terminal.Terminal.TheVariants as the
-use Rattle.cdl_reading.specs.Reading.{list_from}
-use Rattle.cdl_clauses.specs.Declarations.{part, reference}
+use Rattle.cdl_clauses.specs.Declarations.{part}
 use Rattle.cdl_clauses.proofs.connection.reference.Given as goal
 
-abbrev pub invariant-loop-turn : goal.invariant-loop-turn
-invariant-loop-turn l = reference l.fn.most l.fn.tokens ≡ list_from the.Period (part l.fn.most) (l.fn.most - l._turn) l.found l.tokens
+abbrev pub ghost-list : goal.ghost-list
+ghost-list a = part a.most

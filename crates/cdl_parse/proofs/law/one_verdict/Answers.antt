@@ -1,5 +1,9 @@
 use Rattle.cdl_parse.proofs.Verdicts.{closed_not_stuck, closed_not_misnamed, stuck_not_misnamed, one_stuck, one_misnamed}
+use Rattle.cdl_parse.proofs.Closings.{one_closings}
 use Rattle.cdl_parse.proofs.law.one_verdict.Goals as goal
+
+pub returns-clause-one_closings : goal.returns-clause-one_closings
+returns-clause-one_closings c = one_closings
 
 pub returns-clause-closed_not_stuck : goal.returns-clause-closed_not_stuck
 returns-clause-closed_not_stuck c = closed_not_stuck
