@@ -1,0 +1,5 @@
+pub mod Members
+pub mod Modifiers
+pub mod Bindings
+pub mod References
+pub mod HandOut
