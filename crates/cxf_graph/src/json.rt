@@ -123,7 +123,11 @@ fn output_type(kind: ValueType) -> &'static str
 fn connector_type(kind: ValueType, input: bool) -> &'static str
     ensures { result.now ≡ connector_type kind input }
 {
-    if input { input_type(kind) } else { output_type(kind) }
+    if input {
+        input_type(kind)
+    } else {
+        output_type(kind)
+    }
 }
 
 // Puts the `@type` of a node among its members.

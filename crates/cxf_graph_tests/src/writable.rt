@@ -106,9 +106,7 @@ fn is_body(body: &NodeBody) -> bool
             kind,
             given,
             connectors,
-        } => {
-            is_text(kind.bytes()) && are_given(given.items()) && are_texts(connectors.items())
-        }
+        } => { is_text(kind.bytes()) && are_given(given.items()) && are_texts(connectors.items()) }
         NodeBody::Connector { kind, unit, .. } => is_plain(*kind) && is_text(unit.bytes()),
         NodeBody::Other => false,
     }

@@ -7,7 +7,7 @@ pub push_instance-requires-clause-ends : goal.push_instance-requires-clause-ends
 push_instance-requires-clause-ends c =
     let h : c.loop-i.i < length c.args.net.now.instances = rw c.items-instances.ensures at c.loop-i-test.true in
     ends_in c.args.net.now c.loop-i.i (map (λ w. w.now) c.items-in-loop-i.result.now) c.requires.numbers
-        (at_group c.in_ok-wires.wires.items c.loop-i.i _ c.index-in-loop-i.result.now c.items-in-loop-i.result.now (inner c.args.net.now) c.in_ok-wires.ensures.count h c.items-in-loop-i.ensures c.index-in-loop-i.ensures c.in_ok-wires.ensures.wires)
+    (at_group c.in_ok-wires.wires.items c.loop-i.i _ c.index-in-loop-i.result.now c.items-in-loop-i.result.now (inner c.args.net.now) c.in_ok-wires.ensures.count h c.items-in-loop-i.ensures c.index-in-loop-i.ensures c.in_ok-wires.ensures.wires)
 
 pub loop-i-preserved : goal.loop-i-preserved
 loop-i-preserved c =
