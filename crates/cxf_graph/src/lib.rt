@@ -6,9 +6,11 @@ mod graph;
 mod groups;
 mod ids;
 mod json;
+mod law;
 mod members;
 mod writer;
 
 pub use graph::{Given, GivenItem, GivenValue, Graph, GraphNode, NodeBody, Pair};
 pub use json::{text, to_json};
+pub use law::written_is_read;
 pub use writer::write;
