@@ -1,11 +1,10 @@
 -- A written document reads as its graph.
-use Rattle.std.proofs.Common.{◌≡◌, ◌≤◌, ◌∙◌, ℕ, List, [], ◌∷◌, Bool, true, false, cond, codes, length, map, refl, ap, sym, Option, Some}
+use Rattle.std.proofs.Common.{◌≡◌, ◌≤◌, ℕ, List, [], ◌∷◌, true, false, codes, length, map, refl, ap, Some}
 use Rattle.cdl_source.specs.declared.limits.TheConstants.{LONGEST_UNIT}
 use Rattle.cdl_values.specs.declared.value.ValueType.{ValueType}
 use Rattle.cdl_network.specs.Lists.{Apart}
 use Rattle.cdl_network.specs.Rules.{is_empty, is_real}
-use Rattle.cdl_connect.specs.WellFormed.{is_plain}
-use Rattle.serde_json.specs.Data.{Data, Members, no_members, member, string, object, array}
+use Rattle.serde_json.specs.Data.{no_members, member, string, object}
 use Rattle.serde_json.specs.Find.{get_member}
 use Rattle.serde_json.specs.View.{items_of}
 use Rattle.cxf_graph.specs.declared.graph.Graph.{Graph}
@@ -13,8 +12,8 @@ use Rattle.cxf_graph.specs.declared.graph.GraphNode.{GraphNode}
 use Rattle.cxf_graph.specs.declared.graph.NodeBody.{NodeBody}
 use Rattle.cxf_graph.specs.declared.graph.NodeBody.TheVariants.{Composite, Elementary, Connector, Other}
 use Rattle.cxf_graph.specs.declared.graph.Pair.{Pair}
-use Rattle.cxf_graph.specs.Document.{body_members, connector_type, document, given_members, node_data, pair_data, pairs_data, reference, references, unit_member}
-use Rattle.cxf_graph.specs.Reading.{AreFine, AreNodesOf, ArePairs, AreReferences, IsBodyOf, IsFineBody, IsGraphOf, IsNodeOf, IsUnit, IsVersion, body_in_order, composite, connector, elementary, in_order, node_in_order, none, own_members, second, some}
+use Rattle.cxf_graph.specs.Document.{body_members, connector_type, document, given_members, node_data, pair_data, reference, unit_member}
+use Rattle.cxf_graph.specs.Reading.{AreFine, AreNodesOf, ArePairs, AreReferences, IsBodyOf, IsFineBody, IsGraphOf, IsNodeOf, IsUnit, body_in_order, composite, connector, elementary, in_order, node_in_order, none, own_members, second, some}
 
 references_back : (ids : List (List ℕ)) → AreReferences (items_of (map reference ids)) ids
 references_back [] = tt

@@ -1,5 +1,5 @@
 -- One item of a list, and the lists that a net's instances have.
-use Rattle.std.proofs.Common.{◌≡◌, ◌<◌, ◌+◌, ◌==◌, ◌++◌, ◌∷◌, ℕ, suc, List, [], Bor, Option, None, Some, IfSome, All, filter, get_or, length, map, drop, refl, sym, ap, ◌∙◌, slice_get}
+use Rattle.std.proofs.Common.{◌≡◌, ◌<◌, ◌+◌, ◌==◌, ◌++◌, ◌∷◌, ℕ, suc, List, [], Bor, Option, None, Some, IfSome, All, get_or, length, map, drop, refl, sym, ap, ◌∙◌, slice_get}
 use Rattle.std.proofs.Math.Numerals.{add-one}
 use Rattle.std.proofs.Math.Seq.{drop-cons}
 use Rattle.std.proofs.lemmas.List.{append_assoc, get_or-map, length-map}

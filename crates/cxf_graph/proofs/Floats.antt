@@ -1,8 +1,7 @@
 -- A document has no float.
-use Rattle.std.proofs.Common.{◌≡◌, ◌∙◌, ◌||◌, true≢false, ℕ, List, [], ◌∷◌, Bool, true, false, cond, codes, map, refl, ap, pos, negsuc, Ordering, Less, Equal, Greater}
+use Rattle.std.proofs.Common.{◌≡◌, ◌∙◌, ◌||◌, true≢false, ℕ, List, [], ◌∷◌, Bool, true, false, map, refl, ap, pos, negsuc, Ordering, Less, Equal, Greater}
 use Rattle.std.specs.Ordering.{match_ordering}
-use Rattle.cdl_network.specs.Rules.{is_empty}
-use Rattle.serde_json.specs.Data.{Data, Members, no_members, member, put, string}
+use Rattle.serde_json.specs.Data.{Data, Members, no_members, member, put}
 use Rattle.serde_json.specs.View.{items_of}
 use Rattle.serde_json.specs.Written.{compact_text, has_float, items_have_float, members_have_float}
 use Rattle.cxf_graph.specs.declared.graph.Graph.{Graph}

@@ -1,11 +1,10 @@
 -- The JSON value of a graph.
-use Prim.Native.String.{String}
-use Rattle.std.specs.Prelude.{ℕ, Bool, true, false, cond, List, [], ◌∷◌, ◌++◌, codes, map, All, ◌≡◌, IsUtf8}
+use Rattle.std.specs.Prelude.{ℕ, Bool, true, cond, List, [], ◌∷◌, codes, map, All, ◌≡◌, IsUtf8}
 use Rattle.cdl_values.specs.declared.value.ValueType.{ValueType}
 use Rattle.cdl_values.specs.declared.value.ValueType.TheVariants as value
 use Rattle.cdl_network.specs.Rules.{is_empty}
 use Rattle.cdl_connect.specs.WellFormed.{is_plain}
-use Rattle.serde_json.specs.Data.{Data, null, boolean, number, string, array, object, Items, no_items, item, Members, no_members, member, put}
+use Rattle.serde_json.specs.Data.{Data, null, boolean, number, string, array, object, no_items, item, Members, no_members, member, put}
 use Rattle.serde_json.specs.Find.{of_integer}
 use Rattle.serde_json.specs.View.{items_of}
 use Rattle.cxf_graph.specs.declared.graph.Graph.{Graph}

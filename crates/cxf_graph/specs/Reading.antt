@@ -6,7 +6,7 @@ use Rattle.cdl_values.specs.declared.value.ValueType.{ValueType}
 use Rattle.cdl_network.specs.Lists.{Apart}
 use Rattle.cdl_network.specs.Rules.{is_empty, is_real}
 use Rattle.cdl_connect.specs.WellFormed.{is_plain}
-use Rattle.serde_json.specs.Data.{Data, null, boolean, number, string, array, object, Items, no_items, item, Members, no_members, member}
+use Rattle.serde_json.specs.Data.{Data, boolean, number, string, array, object, Items, no_items, item, Members, no_members, member}
 use Rattle.serde_json.specs.Find.{as_i64, get, get_member}
 use Rattle.cxf_graph.specs.declared.graph.Graph.{Graph}
 use Rattle.cxf_graph.specs.declared.graph.GraphNode.{GraphNode}
@@ -73,11 +73,11 @@ pub data IsUnit (version : ℕ) (t : ValueType) : Members → List ℕ → Type 
 -- the `@type` and the own members of a node give this body
 pub data IsBodyOf (version : ℕ) : List ℕ → Members → NodeBody → Type 0 where
   composite : (connections connectors instances : Items) (ps : List Pair) (cs is : List (List ℕ)) → ArePairs connections ps → AreReferences connectors cs → AreReferences instances is
-    → IsBodyOf version (codes "cdl:Composite") (member (codes "cdl:connections") (array connections) (member (codes "cdl:connectors") (array connectors) (member (codes "cdl:instances") (array instances) no_members))) (Composite cs is ps)
+      → IsBodyOf version (codes "cdl:Composite") (member (codes "cdl:connections") (array connections) (member (codes "cdl:connectors") (array connectors) (member (codes "cdl:instances") (array instances) no_members))) (Composite cs is ps)
   elementary : (connectors : Items) (kind : List ℕ) (parameters : Members) (cs : List (List ℕ)) → AreReferences connectors cs
-    → IsBodyOf version (codes "cdl:Elementary") (member (codes "cdl:connectors") (array connectors) (member (codes "cdl:kind") (string kind) (member (codes "cdl:parameters") (object parameters) no_members))) (Elementary kind (given_of parameters) cs)
+      → IsBodyOf version (codes "cdl:Elementary") (member (codes "cdl:connectors") (array connectors) (member (codes "cdl:kind") (string kind) (member (codes "cdl:parameters") (object parameters) no_members))) (Elementary kind (given_of parameters) cs)
   connector : (t : ValueType) (input : Bool) (ms : Members) (unit : List ℕ) → is_plain t ≡ true → IsUnit version t ms unit
-    → IsBodyOf version (connector_type t input) ms (Connector t input unit)
+      → IsBodyOf version (connector_type t input) ms (Connector t input unit)
   other : (sort : List ℕ) (ms : Members) → is_own_name sort ≡ false → IsBodyOf version sort ms Other
 
 pub record IsNodeOf (version : ℕ) (d : Data) (n : GraphNode) : Type 0 where

@@ -1,5 +1,5 @@
-use Rattle.std.proofs.Common.{◌≡◌, ◌++◌, ◌<◌, ℕ, [], drop, get_or, length, map}
-use Rattle.cxf_graph.specs.Written.{inner, nodes_from, parts}
+use Rattle.std.proofs.Common.{◌≡◌, ◌++◌, drop}
+use Rattle.cxf_graph.specs.Written.{nodes_from}
 use Rattle.cxf_graph.proofs.writer.graph.Given as goal
 
 abbrev pub invariant-loop-i : goal.invariant-loop-i
