@@ -82,7 +82,7 @@ pub none_first : (n : Net) → IsUnbroken n → (first_wire (network_of n) ≡ N
 none_first n u = (no_wire n (λ j w l s. u.wires j w l s), no_element_broken n (λ x l. u.elements x l))
 
 -- well formed
-apart_numbers : (a n : ℕ) → Apart (numbers a n)
+pub apart_numbers : (a n : ℕ) → Apart (numbers a n)
 apart_numbers a zero = tt
 apart_numbers a (suc n) = (λ i. let r = in_numbers (suc a) n a i in omega (arith, r.0), apart_numbers (suc a) n)
 

@@ -68,13 +68,13 @@ slice_in x [] i = absurd i
 slice_in x (y ∷ ys) (inl e) = (0, ap Some (sym e))
 slice_in x (y ∷ ys) (inr i) = let r = slice_in x ys i in (suc r.0, r.1)
 
-apart_filter : {A : Type 0} (f : A → Bool) (xs : List A) → Apart xs → Apart (filter f xs)
+pub apart_filter : {A : Type 0} (f : A → Bool) (xs : List A) → Apart xs → Apart (filter f xs)
 apart_filter f [] a = tt
 apart_filter f (x ∷ xs) a =
     let r = apart_filter f xs a.1 in
     elim (f x) as (λ b. Apart (cond b (x ∷ filter f xs) (filter f xs))) [ true ↦ (λ i. a.0 (in_filter f x xs i), r) | false ↦ r ]
 
-once : {A : Type 0} (xs : List A) (j k : ℕ) (x : A) → Apart xs → slice_get xs j ≡ Some x → slice_get xs k ≡ Some x → j ≡ k
+pub once : {A : Type 0} (xs : List A) (j k : ℕ) (x : A) → Apart xs → slice_get xs j ≡ Some x → slice_get xs k ≡ Some x → j ≡ k
 once [] j k x a e f = absurd (cc)
 once (y ∷ ys) zero zero x a e f = refl
 once (y ∷ ys) zero (suc k) x a e f = let q : y ≡ x = cc in absurd (a.0 (subst (λ z. In z ys) (sym q) (in_slice ys k x f)))

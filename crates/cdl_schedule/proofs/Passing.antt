@@ -124,12 +124,12 @@ done_longer n steps o v d = record {
   instance = λ i e h. let r = d.instance i e h in (r.0, old_slice steps o r.0 (Emit i) r.1);
 }
 
-only_origin : (n : Net) (x : ℕ) (c d : Origin ℕ ℕ) → IsChecked n → HasOrigin (network_of n) x c → HasOrigin (network_of n) x d → c ≡ d
+pub only_origin : (n : Net) (x : ℕ) (c d : Origin ℕ ℕ) → IsChecked n → HasOrigin (network_of n) x c → HasOrigin (network_of n) x d → c ≡ d
 only_origin n x c d f g h =
     let r = none_first n f.unbroken in
     one_origin (network_of n) x c d (net_shaped n f.indexed) r.0 r.1 (in_all (length n.elements) x (has_inside n x c f g)) g h
 
-some_origin : (n : Net) (x : ℕ) → IsChecked n → x < length n.elements → (c : Origin ℕ ℕ) × HasOrigin (network_of n) x c
+pub some_origin : (n : Net) (x : ℕ) → IsChecked n → x < length n.elements → (c : Origin ℕ ℕ) × HasOrigin (network_of n) x c
 some_origin n x f h =
     let r = none_first n f.unbroken in
     has_origin (network_of n) x (net_closed n f.indexed) (net_shaped n f.indexed) r.1 (in_all (length n.elements) x h)
@@ -281,7 +281,7 @@ passed_next n sources order t v steps steps2 f a r p h w e =
         subst (λ o. Passed n order (t + 1) (with_step steps o)) (sym q) (passed_skip n order t steps p (composite_done n (get_or order t 0) steps f l b))
 
 -- all vertices
-step_origin : (n : Net) (o : Step) (e : ℕ) → IsStep n o → Writes n o e → (c : Origin ℕ ℕ) × HasOrigin (network_of n) e c × (step_by e c ≡ o)
+pub step_origin : (n : Net) (o : Step) (e : ℕ) → IsStep n o → Writes n o e → (c : Origin ℕ ℕ) × HasOrigin (network_of n) e c × (step_by e c ≡ o)
 step_origin n (Input k x) e s w = (Row k, subst (λ z. HasOrigin (network_of n) z (Row k)) (sym w) s, ap (λ z. Input k z) w)
 step_origin n (Copy u x) e s w = (From u, subst (λ z. HasOrigin (network_of n) z (From u)) (sym w) s, ap (λ z. Copy u z) w)
 step_origin n (Emit i) e s w = let k = slice_in e (outputs_of (network_of n) i) w in (Out i k.0, (in_all (length n.instances) i s.0, s.1, k.1), refl)

@@ -1,0 +1,5 @@
+pub mod Values
+pub mod Ranks
+pub mod Typing
+pub mod Meeting
+pub mod Running
