@@ -3,3 +3,4 @@ pub mod Ranks
 pub mod Typing
 pub mod Meeting
 pub mod Running
+pub mod Laying

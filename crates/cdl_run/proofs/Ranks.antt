@@ -36,7 +36,7 @@ of_rank n j i top s =
     let h = below_all top i (in_filter (network_of n).elementary i (numbers 0 top) m) in
     (e, h, once (elementary_below n top) (rank n i) j i (apart_filter (network_of n).elementary (numbers 0 top) (apart_numbers 0 top)) (rank_at n i top e h) s)
 
-longer : {A : Type 0} (xs : List A) (y : A) (ys : List A) → length xs < length (xs ++ y ∷ ys)
+pub longer : {A : Type 0} (xs : List A) (y : A) (ys : List A) → length xs < length (xs ++ y ∷ ys)
 longer [] y ys = omega arith
 longer (x ∷ xs) y ys = let r = longer xs y ys in omega (arith, r)
 
