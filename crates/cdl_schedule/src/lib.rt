@@ -7,4 +7,5 @@ mod rows;
 mod steps;
 
 pub use plans::{OrderFault, OrderRefusal, Plan, order};
+pub use rows::is_direct_kind;
 pub use steps::Step;

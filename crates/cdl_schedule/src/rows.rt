@@ -43,8 +43,8 @@ pub(crate) fn sources(alloc: Global, net: &Net) -> Result<Vec<usize>, AllocError
     Ok(sources)
 }
 
-// All kinds but the two delays take their inputs at once.
-fn is_direct_kind(kind: Kind) -> bool
+/// Whether the outputs of a block of the kind rest on its inputs at the same tick. So do those of all kinds but the two delays.
+pub fn is_direct_kind(kind: Kind) -> bool
     ensures { result ≡ (row kind).direct }
 {
     !matches!(kind, Kind::LogicalPre | Kind::DiscreteUnitDelay)
