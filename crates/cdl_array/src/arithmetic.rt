@@ -4,9 +4,9 @@ ghost use Rattle.cdl_array.specs.Numbers as spec;
 
 use crate::numbers::{Numbers, real_of};
 use cdl_decimal::Real;
-use cdl_values::Value;
 use cdl_source::LARGEST_INTEGER;
 use cdl_source::rules::NO_VALUE;
+use cdl_values::Value;
 
 // The Integer, if it is in range.
 pub(crate) fn integer_value(whole: i128) -> Result<Value, u32>

@@ -4,8 +4,8 @@ ghost use Rattle.cdl_array.specs.Numbers as spec;
 ghost use Rattle.cdl_array.specs.Operators as operators;
 
 use crate::numbers::{Numbers, numbers_of};
-use cdl_values::Value;
 use cdl_source::rules::WRONG_TYPE;
+use cdl_values::Value;
 
 pub(crate) fn is_less(numbers: Numbers) -> bool
     ensures { result ≡ spec.is_less numbers }

@@ -15,9 +15,9 @@ use crate::scalars::{scalar, scalar_if, scalar_of};
 use crate::sizes::{count_of, size_of};
 use crate::types::{copy_shape, is_number};
 use cdl_decimal::Real;
-use cdl_values::{Array, Value, ValueType};
 use cdl_source::rules::{NO_VALUE, UNKNOWN_NAME, WRONG_SHAPE, WRONG_TYPE};
 use cdl_source::{LARGEST_REAL, List, OutOfMemory};
+use cdl_values::{Array, Value, ValueType};
 use std::alloc::Global;
 
 /// The functions.
@@ -267,7 +267,10 @@ fn greatest_value(array: &Array) -> Result<Value, u32>
     if items.is_empty() {
         return Err(NO_VALUE);
     }
-    number_of(array.value_type, greatest_of(array.value_type, items) as i128)
+    number_of(
+        array.value_type,
+        greatest_of(array.value_type, items) as i128,
+    )
 }
 
 // The sum of a row, whose parts may be out of range.

@@ -6,9 +6,9 @@ ghost use Rattle.cdl_array.specs.Literals as spec;
 use crate::fault::EvalFault;
 use crate::sizes::count_of;
 use crate::types::{common_type, push_as};
-use cdl_values::{Array, Value, ValueType};
 use cdl_source::rules::{SIZE_OUT_OF_RANGE, WRONG_SHAPE};
 use cdl_source::{LARGEST_SIZE, List, OutOfMemory};
+use cdl_values::{Array, Value, ValueType};
 use std::alloc::Global;
 
 fn have_shape(shape: &[u32], arrays: &[Array]) -> bool

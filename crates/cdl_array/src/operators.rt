@@ -10,9 +10,9 @@ use crate::comparison::{are_equal, is_greater, is_greater_or_equal, is_less, is_
 use crate::fault::EvalFault;
 use crate::numbers::{numbers_of, real_of};
 use crate::scalars::{scalar_if, scalar_of};
-use cdl_values::{Array, Value};
 use cdl_source::rules::{WRONG_SHAPE, WRONG_TYPE};
 use cdl_tree::Op;
+use cdl_values::{Array, Value};
 use std::alloc::Global;
 
 // The value of an operator of two operands; `not` is none.

@@ -9,9 +9,9 @@ use crate::fault::EvalFault;
 use crate::scalars::scalar_of;
 use crate::sizes::items_of;
 use crate::types::copy_shape;
-use cdl_values::{Array, Value};
 use cdl_source::rules::{NO_VALUE, WRONG_SHAPE, WRONG_TYPE};
 use cdl_source::{List, OutOfMemory};
+use cdl_values::{Array, Value};
 use std::alloc::Global;
 
 fn is_within(size: u32, index: u32) -> bool

@@ -5,8 +5,8 @@ ghost use Rattle.cdl_array.specs.Outcomes.{Answers, then_to};
 ghost use Rattle.cdl_array.specs.Scalars as spec;
 
 use crate::fault::EvalFault;
-use cdl_values::{Array, Value, ValueType};
 use cdl_source::List;
+use cdl_values::{Array, Value, ValueType};
 use std::alloc::Global;
 
 /// The value of a scalar. None: the array has sizes.

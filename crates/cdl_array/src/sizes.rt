@@ -6,9 +6,9 @@ ghost use Rattle.cdl_array.specs.Sizes as spec;
 
 use crate::fault::EvalFault;
 use crate::scalars::scalar_of;
-use cdl_values::{Array, Value};
 use cdl_source::rules::{SIZE_OUT_OF_RANGE, WRONG_SHAPE, WRONG_TYPE};
 use cdl_source::{LARGEST_SIZE, MOST_ITEMS};
+use cdl_values::{Array, Value};
 
 // The size that a value is.
 #[tactic(auto, unfolding(crate::specs::Sizes::size_value))]

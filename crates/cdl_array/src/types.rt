@@ -5,9 +5,9 @@ ghost use Rattle.cdl_array.specs.Types as spec;
 
 use crate::fault::EvalFault;
 use crate::numbers::real_of;
-use cdl_values::{Array, Value, ValueType};
 use cdl_source::rules::WRONG_TYPE;
 use cdl_source::{List, OutOfMemory};
+use cdl_values::{Array, Value, ValueType};
 use std::alloc::Global;
 
 #[tactic(auto, unfolding(crate::specs::Types::same_type))]
@@ -39,7 +39,9 @@ pub(crate) fn is_number(value_type: ValueType) -> bool
 fn have_type(value_type: ValueType, arrays: &[Array]) -> bool
     ensures { result ≡ spec.have_type value_type arrays.now }
 {
-    arrays.iter().all(|array| same_type(value_type, array.value_type))
+    arrays
+        .iter()
+        .all(|array| same_type(value_type, array.value_type))
 }
 
 fn are_numbers(arrays: &[Array]) -> bool

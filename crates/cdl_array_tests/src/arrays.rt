@@ -1,8 +1,8 @@
 // Arrays as texts: a letter for the type, the sizes in brackets, a colon and the items. A star behind an item stands for as many
 // of it as the sizes say.
 use cdl_decimal::Real;
-use cdl_values::{Array, Value, ValueType};
 use cdl_source::{List, Text};
+use cdl_values::{Array, Value, ValueType};
 use std::alloc::{AllocError, Global};
 use std::test::Fail;
 

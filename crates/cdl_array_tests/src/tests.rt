@@ -8,9 +8,9 @@ use cdl_array::{
     EvalFault, Function, binary, call, condition, converted, count_of, decided, literal, part,
     size_of, subscript, unary,
 };
-use cdl_values::{Array, Value, ValueType};
 use cdl_source::{List, OutOfMemory};
 use cdl_tree::Op;
+use cdl_values::{Array, Value, ValueType};
 use std::alloc::Global;
 use std::test::Fail;
 

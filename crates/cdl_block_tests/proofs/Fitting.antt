@@ -1,16 +1,17 @@
 -- Values that fit parameters, as the tests make them.
-use Rattle.std.proofs.Common.{ℕ, zero, suc, ◌+◌, ◌≡◌, ◌<◌, ◌≤◌, ℤ, List, [], ◌∷◌, ◌++◌, length, get_or, map, take, add-one, ap, ◌∙◌, Bool, false, true, refl, arith}
+use Rattle.std.proofs.Common.{ℕ, zero, suc, ◌+◌, ◌≡◌, ◌<◌, ◌≤◌, ℤ, List, [], ◌∷◌, ◌++◌, length, get_or, map, take, add-one, ap, ◌∙◌, Bool, false, true, refl, arith, subst, sym}
 use Rattle.std.proofs.Math.Nat.{lt_of_not-le}
 use Rattle.std.proofs.Math.Seq.{take-suc}
 use Rattle.std.proofs.lemmas.List.{map-append}
-use Rattle.std.specs.Prelude.{pos, unsigned_abs, All}
+use Rattle.std.specs.Prelude.{unsigned_abs, All}
 use Rattle.cdl_values.specs.declared.value.Array.{Array}
 use Rattle.cdl_values.specs.declared.value.Value.{Value}
 use Rattle.cdl_values.specs.declared.value.Value.TheVariants.{Integer}
 use Rattle.cdl_values.specs.declared.value.ValueType.{ValueType}
 use Rattle.cdl_values.specs.declared.value.ValueType.TheVariants.{Integer as IntegerType, Real as RealType}
+use Rattle.cdl_kinds.specs.declared.kind.Kind.{Kind}
 use Rattle.cdl_kinds.specs.declared.kind.Kind.TheVariants.{IntegersMultiSum, RealsMultiSum}
-use Rattle.cdl_kinds.specs.Conditions.{Fits, FitRows, FitsRow, HasShape, is_count}
+use Rattle.cdl_kinds.specs.Conditions.{Fits, FitRows, FitsRow, HasShape, Keeps, is_count}
 use Rattle.cdl_kinds.specs.declared.parameter.Parameter.{Parameter}
 use Rattle.cdl_kinds.specs.Table.{ParameterRow}
 use Rattle.cdl_kinds.specs.Parameters.{parameter_row}
@@ -77,3 +78,7 @@ values_ready p q xs e v = rw e (record { size = v.size; each = λ i l _. v.each 
 -- an input's number is below how many there are
 pub before_outputs : (i n : ℕ) (b : Bool) → b ≡ true → (n ≤ i → b ≡ false) → i < n
 before_outputs i n b t f = lt_of_not-le (λ l. let o : b ≡ false = f l in cc)
+
+-- equal values keep the same
+pub same_keeps : (k : Kind) (p q : List Array) → q ≡ p → Keeps k p → Keeps k q
+same_keeps k p q e h = subst (Keeps k) (sym e) h

@@ -3,13 +3,13 @@ ghost use Rattle.std.specs.Prelude.{◌≡◌, ◌+◌, ◌<◌, ◌≤◌, ℕ,
 ghost use Rattle.cdl_kinds.specs.Conditions.{Keeps};
 ghost use Rattle.cdl_values.specs.History.{AreReady, AreValues, IsValue, word};
 ghost use Rattle.cdl_kinds.specs.Ports.{inputs, outputs};
-ghost use Rattle.cdl_blocks.specs.MemorylessKinds.{is_memoryless};
 
-use crate::values::{numbers, values};
-use cdl_blocks::{AnyBlock, is_memoryless};
-use cdl_kinds::{Elementary, Kind, Params, Steps, check, find, port, port_count};
+use crate::values::{block_of, numbers, params_of};
+use cdl_blocks::AnyBlock;
+use cdl_kinds::{Elementary, Kind, Params, Steps, find, port, port_count};
 use cdl_values::words::read;
 use cdl_values::{NoValue, ValueType};
+use std::alloc::Global;
 use std::marker::Brand;
 use std::sync::ledger::{Blank, Ledger};
 use std::test::Fail;
@@ -109,7 +109,7 @@ fn is_input(kind: Kind, params: &Params, ins: &[i64], i: usize) -> bool
 }
 
 // Whether the words are values of the inputs, and there are as many outputs.
-fn are_ready(kind: Kind, params: &Params, ins: &[i64], outs: usize) -> bool
+pub fn are_ready(kind: Kind, params: &Params, ins: &[i64], outs: usize) -> bool
     requires keeps { Keeps kind params.now }
     requires few { outs ≤ 8 }
     ensures values { IsTrue result → AreValues (inputs kind params.now) ins.now }
@@ -152,48 +152,61 @@ fn first_tick<L: Ledger>(
 }
 
 // Whether a block of the kind gives these words, or none where there are none.
-fn gives(kind: Kind, params: Params, ins: &[i64], want: &[i64]) -> bool
-    requires keeps { Keeps kind params }
-    requires memoryless { is_memoryless kind ≡ true }
+fn gives(kind: Kind, params: &Params, block: &AnyBlock, ins: &[i64], want: &[i64]) -> bool
+    requires keeps { Keeps kind params.now }
+    requires inputs { ⟦<AnyBlock as Elementary>⟧.inputs block.now ≡ inputs kind params.now }
+    requires results { ⟦<AnyBlock as Elementary>⟧.results block.now ≡ outputs kind params.now }
 {
     let n = if want.is_empty() { 1 } else { want.len() };
-    if n > 8 || !are_ready(kind, &params, ins, n) {
+    if n > 8 || !are_ready(kind, params, ins, n) {
         return false;
     }
     let mut words = [0; 8];
     let outs = &mut words[..n];
-    let block = AnyBlock::new(kind, params);
-    match first_tick::<Brand>(Blank::new(1), &block, ins, outs) {
+    match first_tick::<Brand>(Blank::new(1), block, ins, outs) {
         Some(Ok(())) => *outs == *want,
         Some(Err(NoValue)) => want.is_empty(),
         None => false,
     }
 }
 
-#[test]
+// Whether the block gives the words of each cell.
+fn gives_each(
+    alloc: Global,
+    kind: Kind,
+    params: &Params,
+    block: &AnyBlock,
+    row: &str,
+) -> Result<bool, Fail>
+    requires keeps { Keeps kind params.now }
+    requires inputs { ⟦<AnyBlock as Elementary>⟧.inputs block.now ≡ inputs kind params.now }
+    requires results { ⟦<AnyBlock as Elementary>⟧.results block.now ≡ outputs kind params.now }
+{
+    for cell in row.split(';').skip(2) {
+        let (ins, outs) = cell.split_once('=').ok_or("no outputs")?;
+        let ins = numbers(alloc, ins)?;
+        let want = numbers(alloc, outs)?;
+        if !gives(kind, params, block, ins.as_slice(), want.as_slice()) {
+            return Ok(false);
+        }
+    }
+    Ok(true)
+}
+
+// Whether a block of the row's kind and parameters gives its words.
+fn keeps_row(alloc: Global, row: &str) -> Result<bool, Fail> {
+    let mut cells = row.split(';');
+    let kind = find(cells.next().ok_or("no kind")?).ok_or("no such kind")?;
+    let given = numbers(alloc, cells.next().ok_or("no parameters")?)?;
+    let params = params_of(alloc, kind, given.as_slice())?;
+    let block = block_of(alloc, kind, &params)?;
+    gives_each(alloc, kind, &params, &block, row)
+}
+
 #[test]
 fn each_kind_gives_its_words(rt: HostRuntime) -> Result<(), Fail> {
-    let alloc = rt.alloc();
     for row in CASES.lines() {
-        let mut cells = row.split(';');
-        let kind = find(cells.next().ok_or("no kind")?).ok_or("no such kind")?;
-        if !is_memoryless(kind) {
-            return Err("a kind with a memory".into());
-        }
-        let given = numbers(alloc, cells.next().ok_or("no parameters")?)?;
-        let params = match check(kind, values(alloc, kind, given.as_slice())?) {
-            Ok(params) => params,
-            Err(_fault) => return Err("a condition is broken".into()),
-        };
-        for cell in cells {
-            let (ins, outs) = cell.split_once('=').ok_or("no outputs")?;
-            let ins = numbers(alloc, ins)?;
-            let want = numbers(alloc, outs)?;
-            assert!(rt;
-                gives(kind, params.copy(alloc)?, ins.as_slice(), want.as_slice()),
-                "{row}: {cell}"
-            );
-        }
+        assert!(rt; keeps_row(rt.alloc(), row)?, "{row}");
     }
     Ok(())
 }

@@ -6,6 +6,8 @@ mod blocks;
 #[cfg(test)]
 mod decimal;
 #[cfg(test)]
+mod histories;
+#[cfg(test)]
 mod kinds;
 #[cfg(test)]
 mod values;

@@ -1,11 +1,13 @@
 // Values of parameters, from numbers.
 ghost use Rattle.std.specs.Prelude.{◌≡◌, ◌≤◌, ℤ, All, IfOk, IfSome, length, false, true, unsigned_abs};
-ghost use Rattle.cdl_kinds.specs.Conditions.{Fits, FitsRow, is_count};
+ghost use Rattle.cdl_kinds.specs.Conditions.{Fits, FitsRow, Keeps, is_count};
 ghost use Rattle.cdl_kinds.specs.Parameters.{parameter_row};
+ghost use Rattle.cdl_kinds.specs.Ports.{inputs, outputs};
 ghost use Rattle.cdl_values.specs.Values.{IsOf};
 
+use cdl_blocks::AnyBlock;
 use cdl_decimal::Real;
-use cdl_kinds::{Kind, Parameter, parameters};
+use cdl_kinds::{Elementary, Kind, Parameter, Params, check, parameters};
 use cdl_source::List;
 use cdl_values::{Array, Value, ValueType};
 use std::alloc::Global;
@@ -161,4 +163,24 @@ pub fn numbers(alloc: Global, text: &str) -> Result<Vec<i64>, Fail> {
         }
     }
     Ok(numbers)
+}
+
+/// The parameters of a kind, from numbers.
+pub fn params_of(alloc: Global, kind: Kind, numbers: &[i64]) -> Result<Params, Fail>
+    ensures { IfOk result (λ p. Keeps kind p) }
+{
+    match check(kind, values(alloc, kind, numbers)?) {
+        Ok(params) => Ok(params),
+        Err(_fault) => Err("a condition is broken".into()),
+    }
+}
+
+/// The block of the kind with these parameters.
+pub fn block_of(alloc: Global, kind: Kind, params: &Params) -> Result<AnyBlock, Fail>
+    requires { Keeps kind params.now }
+    ensures inputs { IfOk result (λ b. ⟦<AnyBlock as Elementary>⟧.inputs b ≡ inputs kind params.now) }
+    ensures results { IfOk result (λ b. ⟦<AnyBlock as Elementary>⟧.results b ≡ outputs kind params.now) }
+{
+    let copy = params.copy(alloc)?;
+    Ok(AnyBlock::new(kind, copy))
 }

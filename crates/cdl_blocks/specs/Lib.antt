@@ -1,7 +1,4 @@
-pub mod AtOnce
-pub mod Gates
-pub mod Scalars
-pub mod Integers
-pub mod Extremes
-pub mod Reals
-pub mod MemorylessKinds
+pub mod Edges
+pub mod Memory
+pub mod Counter
+pub mod Rules

@@ -1,18 +1,12 @@
-//! The blocks of the kinds that have no state, and a block of any kind.
+//! The blocks of the kinds that remember their inputs without looking at the time, and a block of any kind.
 #![tactic(auto)]
 
 mod any_block;
-mod extremes;
-mod gates;
-mod integers;
-mod make;
-mod memoryless;
-mod memoryless_block;
-mod reals;
-mod scalar;
-mod sources;
-mod sums;
-mod whole;
+mod counter;
+mod edges;
+mod hysteresis;
+mod integer_change;
+mod memory;
+mod seen;
 
 pub use any_block::AnyBlock;
-pub use make::is_memoryless;

@@ -7,3 +7,4 @@ pub mod TwiceClasses
 pub mod Firstly
 pub mod ItemClasses
 pub mod Answers
+mod FormedClasses

@@ -1,5 +1,6 @@
 // The declared classes of files, before the rules on their items are looked at.
 ghost use Rattle.std.specs.Prelude.{◌≡◌, ◌<◌, ◌≤◌, ◌^◌, [], IfErr, IfOk, List, None, Some, length, nat_lt, slice_get, option_map, option_and_then, if◌then◌else◌};
+ghost use Rattle.cdl_source.specs.declared.limits.TheConstants.{MOST_MODELS};
 ghost use Rattle.cdl_tree.specs.Parts.{items_of};
 ghost use Rattle.cdl_scopes.specs.Classes.{Full, declared, parts_of};
 ghost use Rattle.cdl_scopes.specs.Lookup.{Entity, meaning};
@@ -102,7 +103,7 @@ fn item_number(number: usize, tree: &ClassTree) -> Option<u32>
 impl Declarations {
     /// The declared classes of these files, where none has a name that is declared already or isn't free.
     pub fn of(alloc: Global, files: List<FileTree>) -> Result<Declarations, ClassFault>
-        requires { length files ≤ 64 }
+        requires { length files ≤ MOST_MODELS }
         ensures ok { IfOk result (λ d. (d ≡ files) × ((broken_10 (declared files) ≡ []) × (broken_11 (declared files) ≡ []))) }
         ensures err { IfErr result (Refuses files) }
     {

@@ -6,8 +6,8 @@ ghost use Rattle.cdl_kinds.specs.Names.{kinds, found as kind_found};
 
 use arrayvec::ArrayVec;
 use cdl_kinds::{Kind, find};
-use cdl_values::ValueType;
 use cdl_tree::Ident;
+use cdl_values::ValueType;
 
 /// The number of a declared class: a block, a package or an enumeration. They are numbered from 0, by file, then in the order of the
 /// text.

@@ -1,6 +1,9 @@
 // The table of the declared classes, which keep the rules on classes.
-ghost use Rattle.std.specs.Prelude.{◌≡◌, ◌<◌, ◌≤◌, ◌^◌, IfOk, IfErr, IfSome, List, None, Some, length, slice_get, option_map, option_and_then};
+ghost use Rattle.std.specs.Prelude.{◌≡◌, ◌<◌, ◌≤◌, ◌^◌, IfOk, IfErr, IfSome, List, None, Some, true, length, slice_get, option_map, option_and_then};
+ghost use Rattle.cdl_source.specs.declared.limits.TheConstants.{MOST_MODELS};
+ghost use Rattle.std.specs.List.{list_all};
 ghost use Rattle.cdl_tree.specs.declared.class.Item.{Item as ItemOf};
+ghost use Rattle.cdl_tree.specs.FormedFiles.{formed_class, formed_file};
 ghost use Rattle.cdl_scopes.specs.Classes.{declared, parts_of};
 ghost use Rattle.cdl_scopes.specs.Lookup.{meaning};
 ghost use Rattle.cdl_classes.specs.Found.{found_of, value_of};
@@ -66,12 +69,13 @@ impl From<OutOfMemory> for ClassFault {
 }
 
 impl ClassTable {
-    /// The table of the classes that these files declare. `Rule` comes exactly where a rule on classes is broken, memory aside, and
+    /// The table of the classes that these files declare, which are formed as those of texts are. `Rule` comes exactly where a rule on classes is broken, memory aside, and
     /// names the first: 10, a name declared twice; 11, a name that isn't free; 12, a class name that isn't found; 13, an item that
     /// isn't supported; of one rule the first place by file, then by byte. `OutOfMemory` comes too where 2^32 names or more are
     /// declared, which texts of the allowed sizes never do. A refused list of files is dropped.
     pub fn build(alloc: Global, files: List<FileTree>) -> Result<ClassTable, ClassFault>
-        requires { length files ≤ 64 }
+        requires few { length files ≤ MOST_MODELS }
+        requires formed { list_all formed_file files ≡ true }
         ensures ok { IfOk result (λ table. (table ≡ files) × IsUnbroken (declared files)) }
         ensures err { IfErr result (Refuses files) }
     {
@@ -95,21 +99,24 @@ impl ClassTable {
         })
     }
 
-    /// How many classes are declared. They keep the rules on classes.
+    /// How many classes are declared. They keep the rules on classes, and the files are formed.
     pub fn len(&self) -> usize
         ensures count { result ≡ length (declared self.now) }
         ensures small { result < 2 ^ 32 }
         ensures unbroken { IsUnbroken (declared self.now) }
+        ensures formed { list_all formed_file self.now ≡ true }
     {
         let _ = &self.item_classes;
         self.declarations.len()
     }
 
-    /// The declaration of a class. It takes no memory.
+    /// The declaration of a class, which is formed. It takes no memory.
     pub fn tree(&self, class: ClassId) -> &ClassTree
         requires { class.index < length (declared self.now) }
-        ensures { option_map (λ d. d.tree) (slice_get (declared self.now) class.index) ≡ Some result.now }
+        ensures tree { option_map (λ d. d.tree) (slice_get (declared self.now) class.index) ≡ Some result.now }
+        ensures formed { formed_class result.now ≡ true }
     {
+        let _ = &self.item_classes;
         self.declarations.tree(class)
     }
 

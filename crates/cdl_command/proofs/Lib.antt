@@ -1,6 +1,7 @@
 pub mod DueFacts
 pub mod TextFacts
 pub mod ModelFacts
+mod FormedTrees
 pub mod RootFacts
 pub mod TableFacts
 pub mod TickFacts

@@ -1,12 +1,12 @@
 -- The texts of models and their trees, side by side.
 use Rattle.std.proofs.Common.{◌≡◌, ◌∙◌, ◌+◌, ◌≤◌, ◌<◌, ℕ, zero, suc, List, [], ◌∷◌, ◌++◌, length, slice_get, slice_index_or, length-append, map, Option, Some, refl, sym, ap, subst, inl, inr, arith}
+use Rattle.cdl_source.specs.declared.limits.TheConstants.{LONGEST_MODEL}
 use Rattle.std.proofs.Math.Nat.{lt_of_not-le}
 use Rattle.std.specs.Option.{option_map}
 use Rattle.std.proofs.lemmas.Option.{slice_get-map, slice_get_read}
 use Rattle.cdl_source.specs.Outside.{due_after, DueBeginsWith, IsNextDue}
 use Rattle.cdl_source.specs.declared.place.Place.{Place}
 use Rattle.cdl_lex.specs.Rules.Breaks.{too_long}
-use Rattle.cdl_lex.specs.TokenList.{longest_text}
 use Rattle.cdl_tree.specs.declared.class.FileTree.{FileTree}
 use Rattle.cdl_command.specs.inner.Reads.{AreShort, due_behind}
 use Rattle.cdl_command.specs.inner.Stops.{Stops, StopsInTexts, RefusesText}
@@ -40,7 +40,7 @@ as_many (y ∷ texts) (x ∷ trees) h = ap suc (as_many texts trees h.1)
 -- A text with a tree is no longer than a text may be.
 short_text : (text : List ℕ) (tree : FileTree) → HasTree text tree → length text ≤ 524288
 short_text text tree h =
-    let within : length text < suc 524288 = lt_of_not-le (λ long. h.0.none_broken 1 longest_text (too_long (record { long = omega (arith, long); place = refl }))) in
+    let within : length text < suc LONGEST_MODEL = lt_of_not-le (λ long. h.0.none_broken 1 LONGEST_MODEL (too_long (record { long = omega (arith, long); place = refl }))) in
     omega (arith, within)
 
 short_at : (texts : List (List ℕ)) (trees : List FileTree) (k : ℕ) (text : List ℕ) → HaveTrees texts trees → slice_get texts k ≡ Some text → length text ≤ 524288

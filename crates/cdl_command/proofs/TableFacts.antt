@@ -1,5 +1,5 @@
 -- What was read of a table.
-use Rattle.std.proofs.Common.{◌≡◌, ◌∙◌, ◌≤◌, ◌<◌, ℕ, List, [], ◌∷◌, ◌++◌, length, take, Option, None, Some, IfSome, refl, sym, ap, subst, inl, inr, length-append, arith}
+use Rattle.std.proofs.Common.{◌≡◌, ◌∙◌, ◌≤◌, ◌<◌, ℕ, List, length, refl, sym, ap, subst, inl, inr, arith}
 use Rattle.cdl_source.specs.Outside.{told, IsAbsent}
 use Rattle.cdl_source.specs.Whole.{KeepsHead}
 use Rattle.cdl_source.specs.declared.limits.TheConstants.{LONGEST_TABLE}

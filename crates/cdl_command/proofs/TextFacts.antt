@@ -1,25 +1,23 @@
 -- From the bytes of a model to its tree, or to the rule that it breaks first.
-use Rattle.std.proofs.Common.{◌≡◌, ◌∙◌, ◌≤◌, ◌<◌, ℕ, List, [], ◌∷◌, ◌++◌, length, take, Option, Some, None, Ok, Err, refl, sym, subst, inl, inr, length-append, arith}
+use Rattle.std.proofs.Common.{◌≡◌, ◌∙◌, ◌≤◌, ◌<◌, ℕ, List, length, take, Ok, Err, refl, sym, subst, inl, arith}
+use Rattle.cdl_source.specs.declared.limits.TheConstants.{LONGEST_MODEL}
 use Rattle.std.proofs.lemmas.List.{take_all}
-use Rattle.std.proofs.Math.Seq.{take-append_seam}
 use Rattle.cdl_source.specs.Place.{line_of, column_of}
 use Rattle.cdl_source.specs.Outside.{told, IsAbsent}
 use Rattle.cdl_source.specs.Whole.{KeepsHead, FaultIsAnswered as ReadFaultIsAnswered}
-use Rattle.cdl_source.specs.declared.place.Place.{Place}
 use Rattle.cdl_source.specs.declared.place.Token.{Token}
 use Rattle.cdl_source.specs.declared.whole.ReadError.{ReadError}
 use Rattle.cdl_source.specs.declared.whole.ReadError.TheVariants.{Failed, TooLarge, OutOfMemory}
 use Rattle.cdl_lex.specs.Rules.{Breaks, too_long, not_utf8, no_token, past_limits, too_deep, too_many, BreaksNone, IsFirstBroken}
 use Rattle.cdl_lex.specs.Splits.{Splits}
-use Rattle.cdl_lex.specs.TokenList.{TokenList, longest_text}
+use Rattle.cdl_lex.specs.TokenList.{TokenList}
 use Rattle.cdl_tree.specs.declared.class.FileTree.{FileTree}
 use Rattle.cdl_tree.specs.Terminals.{lexemes}
-use Rattle.cdl_parse.specs.Verdict.{Closes, IsTree, IsRefused, word_of}
-use Rattle.cdl_parse.specs.declared.ParseFault.TheVariants.{Rule}
-use Rattle.cdl_command.specs.inner.Reads.{stop_of, IsShortHead}
+use Rattle.cdl_parse.specs.Verdict.{Closes, IsTree}
+use Rattle.cdl_reading.specs.Reading.{word_of}
+use Rattle.cdl_command.specs.inner.Reads.{stop_of}
 use Rattle.cdl_command.specs.inner.Stops.{FaultIsAnswered, Stops, RefusesText, refusal_at}
-use Rattle.cdl_command.specs.Texts.{Contents, Holds, IsTreeOf, HasTree, BreaksText}
-use Rattle.cdl_command.specs.declared.stop.Refusal.{Refusal}
+use Rattle.cdl_command.specs.Texts.{Contents, IsTreeOf, HasTree}
 use Rattle.cdl_command.proofs.ReadFacts.{longer}
 
 -- the tokens that were found close into the tree
@@ -38,7 +36,7 @@ tree_found t bytes tree b none splits lexed found only =
     (tree_is t bytes tree b none splits found, λ other o. sym (only other (closed t bytes b lexed other o)))
 
 -- A rule of tokens has a number from 1 on, and rule 1 is broken behind the longest text.
-number : {bytes : List ℕ} {r p : ℕ} → Breaks bytes r p → (1 ≤ r) × (r ≡ 1 → p ≡ longest_text)
+number : {bytes : List ℕ} {r p : ℕ} → Breaks bytes r p → (1 ≤ r) × (r ≡ 1 → p ≡ LONGEST_MODEL)
 number (too_long x) = (omega arith, λ e. x.place)
 number (not_utf8 x) = (omega arith, λ e. absurd (omega (arith, e)))
 number (no_token x) = (omega arith, λ e. absurd (omega (arith, e)))
@@ -46,7 +44,7 @@ number (past_limits ts s x) = (omega arith, λ e. absurd (omega (arith, e)))
 number (too_deep ts s x) = (omega arith, λ e. absurd (omega (arith, e)))
 number (too_many ts s x) = (omega arith, λ e. absurd (omega (arith, e)))
 
-first_too_long : (text : List ℕ) → longest_text < length text → IsFirstBroken text 1 longest_text
+first_too_long : (text : List ℕ) → LONGEST_MODEL < length text → IsFirstBroken text 1 LONGEST_MODEL
 first_too_long text long =
     record {
       broken = too_long (record { long = long; place = refl });
@@ -55,23 +53,23 @@ first_too_long text long =
     }
 
 -- the place behind the longest text stands in the head's line and column
-at_head : (file : ℕ) (head text : List ℕ) → length head ≡ longest_text → head ≡ take longest_text text
-    → refusal_at 1 (record { file = file; byte = longest_text }) head ≡ refusal_at 1 (record { file = file; byte = longest_text }) text
+at_head : (file : ℕ) (head text : List ℕ) → length head ≡ LONGEST_MODEL → head ≡ take LONGEST_MODEL text
+    → refusal_at 1 (record { file = file; byte = LONGEST_MODEL }) head ≡ refusal_at 1 (record { file = file; byte = LONGEST_MODEL }) text
 at_head file head text l k =
-    let same : take longest_text head ≡ take longest_text text = take_all longest_text head (omega (arith, l)) ∙ k in
-    let P : List ℕ → Type 0 = λ front. refusal_at 1 (record { file = file; byte = longest_text }) head
-    ≡ (record { rule = 1; spot = (refusal_at 1 (record { file = file; byte = longest_text }) text).spot; line = line_of front; column = column_of front }) in
+    let same : take LONGEST_MODEL head ≡ take LONGEST_MODEL text = take_all LONGEST_MODEL head (omega (arith, l)) ∙ k in
+    let P : List ℕ → Type 0 = λ front. refusal_at 1 (record { file = file; byte = LONGEST_MODEL }) head
+    ≡ (record { rule = 1; spot = (refusal_at 1 (record { file = file; byte = LONGEST_MODEL }) text).spot; line = line_of front; column = column_of front }) in
     subst P same refl
 
 pub not_whole_read : (contents : Contents) (name : List ℕ) (file : ℕ) (e : ReadError) (rose : Type 0) → (e ≡ Failed → rose) → (IsAbsent contents name → e ≡ Failed)
-    → KeepsHead longest_text (told contents name) e → Stops rose (RefusesText contents name file) (stop_of e file)
+    → KeepsHead LONGEST_MODEL (told contents name) e → Stops rose (RefusesText contents name file) (stop_of e file)
 not_whole_read contents name file Failed rose failed absent keeps = failed refl
 not_whole_read contents name file (TooLarge head) rose failed absent keeps =
-    let t = longer longest_text contents name head (λ none. absurd (cc (absent none))) keeps in
+    let t = longer LONGEST_MODEL contents name head (λ none. absurd (cc (absent none))) keeps in
     record {
       text = t.0;
       rule = 1;
-      place = record { file = file; byte = longest_text };
+      place = record { file = file; byte = LONGEST_MODEL };
       holds = t.1.holds;
       broken = inl (refl, first_too_long t.0 t.1.long);
       refusal_is = at_head file head t.0 keeps.0 t.1.head_is;

@@ -63,8 +63,18 @@ fn part_of(found: Option<Found>) -> Option<Part>
     ensures { result ≡ spec.part_of found }
 {
     match found {
-        Some(Found::Connector { value_type, input: true }) => Some(Part::Input(value_type)),
-        Some(Found::Connector { value_type, input: false }) => Some(Part::Output(value_type)),
+        Some(
+            Found::Connector {
+                value_type,
+                input: true,
+            },
+        ) => Some(Part::Input(value_type)),
+        Some(
+            Found::Connector {
+                value_type,
+                input: false,
+            },
+        ) => Some(Part::Output(value_type)),
         Some(Found::Kind(kind)) => Some(Part::Component(kind)),
         Some(Found::Class(_) | Found::Scalar(_) | Found::Package | Found::Unsupported) | None => {
             None

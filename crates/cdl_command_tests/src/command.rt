@@ -73,6 +73,9 @@ const CASES: &str =
     run M none.csv m.mo~block M &Logical.Pre p; end M;~~time,u1,u2|>1~~#: C9 not built yet|\n\
     run M none.csv m.mo s.mo~block M N n; end M;~block N end N;~time,u1,u2|>1~~#: C9 not built yet|\n\
     run M none.csv m.mo~block M parameter Real k = 1; end M;~~time,u1,u2|>1~~#: C9 not built yet|\n\
+    run M none.csv m.mo~block M equation for i in 1:2 loop end for; end M;~~time,u1,u2|>1~~#: C9 not built yet|\n\
+    run M none.csv m.mo~block M equation for i in 1:2 loop connect(a, b) end for; end M;~~time,u1,u2|>1~~m.mo:1:50: C7 syntax|\n\
+    run M none.csv m.mo~block M equation for i in 1:2:3 loop end for; end M;~~time,u1,u2|>1~~m.mo:1:30: C7 syntax|\n\
     check M m.mo~block M end M;~~time,u1,u2|>1~~#: C9 not built yet|\n\
     sample 2000~~~time,u1,u2|>1~~#: C9 not built yet|\n\
     run M m.mo m.mo~block M end M;~~time,u1,u2|>1~~m.mo:1:1: C62 wrong header|\n\

@@ -5,10 +5,10 @@ ghost use Rattle.cdl_table.specs.Values.{AreValues, HaveValues};
 
 use cdl_flat::{Flat, Part, Runner};
 use cdl_kinds::{Steps, find};
-use cdl_values::ValueType;
 use cdl_source::{List, Span, Text};
 use cdl_table::Table;
-use cdl_tree::{Connect, Dim, Ident, Item, Name, Part as Step, Prefix, Ref, Sub};
+use cdl_tree::{Connect, Dim, Ident, Item, Name, Part as Step, Prefix, Ref, Statement, Sub};
+use cdl_values::ValueType;
 use std::alloc::Global;
 use std::marker::Brand;
 use std::sync::ledger::{Blank, Ledger};
@@ -83,17 +83,17 @@ fn reference(alloc: Global, words: &str) -> Result<Ref, Fail> {
     Ok(Ref { parts })
 }
 
-fn connects(alloc: Global, words: &str) -> Result<List<Connect>, Fail> {
-    let mut connects = List::new(alloc);
+fn statements(alloc: Global, words: &str) -> Result<List<Statement>, Fail> {
+    let mut statements = List::new(alloc);
     for word in words.split_whitespace() {
         let (left, right) = word.split_once('>').ok_or("no statement")?;
-        connects.push(Connect {
+        statements.push(Statement::Connect(Connect {
             left: reference(alloc, left)?,
             right: reference(alloc, right)?,
             span: NOWHERE,
-        })?;
+        }))?;
     }
-    Ok(connects)
+    Ok(statements)
 }
 
 fn part(word: &str) -> Option<Part> {
@@ -263,13 +263,13 @@ fn gave(
     alloc: Global,
     items: &[Item],
     parts: &[Option<Part>],
-    connects: &[Connect],
+    statements: &[Statement],
     bytes: &[u8],
 ) -> Result<String, Fail> {
     if items.len() != parts.len() {
         return Err("other numbers".into());
     }
-    match Flat::of(alloc, items, parts, connects)? {
+    match Flat::of(alloc, items, parts, statements)? {
         Some(flat) => run::<Brand>(Blank::new(1), alloc, flat, bytes),
         None => Ok(String::from_str(alloc, " none")?),
     }
@@ -279,14 +279,14 @@ fn gave(
 fn holds(alloc: Global, case: &str) -> Result<bool, Fail> {
     let mut cells = case.split(';');
     let words = cells.next().ok_or("no items")?;
-    let statements = cells.next().ok_or("no statements")?;
+    let joins = cells.next().ok_or("no statements")?;
     let table = cells.next().ok_or("no table")?;
     let want = cells.next().ok_or("no words")?;
     let items = items(alloc, words)?;
     let parts = parts(alloc, words)?;
-    let connects = connects(alloc, statements)?;
+    let statements = statements(alloc, joins)?;
     let bytes = table_bytes(alloc, table)?;
-    let gave = gave(alloc, items.items(), &parts, connects.items(), &bytes)?;
+    let gave = gave(alloc, items.items(), &parts, statements.items(), &bytes)?;
     Ok(gave.as_str().strip_prefix(' ') == Some(want))
 }
 

@@ -3,9 +3,9 @@ ghost use Rattle.std.specs.Prelude.{◌≡◌, ◌++◌, ◌∷◌, [], IfOk, On
 ghost use Rattle.cdl_command_tests.specs.Mixed.{AreMixed};
 
 use crate::marks::bytes_of;
-use cdl_values::ValueType;
 use cdl_source::{List, MemSink, Text};
 use cdl_table::{Column, Table, TableFault, TraceError, TraceWriter};
+use cdl_values::ValueType;
 use std::alloc::Global;
 use std::test::Fail;
 
@@ -96,12 +96,20 @@ const CASES: &str = "&=\n\
     time;a;\"u[1,2]\";x|=C62 1 1";
 
 // Adds a column.
-fn add(alloc: Global, list: &mut List<Column>, name: &str, value_type: ValueType) -> Result<(), Fail>
+fn add(
+    alloc: Global,
+    list: &mut List<Column>,
+    name: &str,
+    value_type: ValueType,
+) -> Result<(), Fail>
     ensures { OnOk result (list.new ≡ list.old ++ record { name = name.now; value_type = value_type } ∷ []) }
 {
     let mut text = Text::new(alloc);
     text.push(name.as_bytes())?;
-    list.push(Column { name: text, value_type })?;
+    list.push(Column {
+        name: text,
+        value_type,
+    })?;
     Ok(())
 }
 

@@ -1,5 +1,6 @@
 -- Rounding to the nearest whole number, rounding down, and the range of a Real.
 use Rattle.std.specs.Prelude.{ℕ, suc, ◌*◌, ◌%◌, ◌≤◌, ◌≡◌, ℤ, pos, negsuc, ◌+ℤ◌, ◌-ℤ◌, ◌*ℤ◌, ◌≤ℤ◌, ◌<ℤ◌, neg_ℤ, unsigned_abs, Bool, cond, ◌||◌, ◌&&◌, nat_lt, nat_le, ◌==◌, Option, Some, None}
+use Rattle.cdl_source.specs.declared.limits.TheConstants.{LARGEST_INTEGER, LARGEST_REAL}
 use Rattle.std.specs.Int.{int_div_euclid, int_rem_euclid}
 
 -- q is the whole number nearest to the fraction n / d, and even where two are nearest
@@ -45,14 +46,14 @@ modulo_of a b = a -ℤ b *ℤ floor_div a b
 
 -- a count of magnitude at most 10^16
 abbrev pub InRange : ℤ → Type 0
-InRange z = unsigned_abs z ≤ 10000000000000000
+InRange z = unsigned_abs z ≤ LARGEST_REAL
 
 abbrev pub in_range : ℤ → Option ℤ
-in_range z = cond (nat_le (unsigned_abs z) 10000000000000000) (Some z) None
+in_range z = cond (nat_le (unsigned_abs z) LARGEST_REAL) (Some z) None
 
 -- a whole number of magnitude at most 2,147,483,647
 abbrev pub in_integer_range : ℤ → Option ℤ
-in_integer_range z = cond (nat_le (unsigned_abs z) 2147483647) (Some z) None
+in_integer_range z = cond (nat_le (unsigned_abs z) LARGEST_INTEGER) (Some z) None
 
 -- none where the divisor is 0
 abbrev pub unless_zero : ℤ → Option ℤ → Option ℤ

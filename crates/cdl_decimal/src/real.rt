@@ -1,13 +1,18 @@
 // The type of counts of millionths, and its operations.
 ghost use Rattle.std.specs.Prelude.{◌≡◌, ◌*◌, ◌^◌, ◌<◌, ◌≤◌, length, ℤ, pos, ◌+ℤ◌, ◌-ℤ◌, ◌*ℤ◌, ◌≤ℤ◌, ◌<ℤ◌, neg_ℤ, unsigned_abs, None, IsSome, IsSomeAnd};
+ghost use Rattle.cdl_source.specs.declared.limits.TheConstants.{LARGEST_REAL};
 ghost use Rattle.cdl_decimal.specs.Near.{near, InRange, in_range, in_integer_range, IsFloor, IsModulo, IsNear, RoundsTo};
 ghost use Rattle.cdl_decimal.specs.Counts.{real_add, real_sub, real_mul, real_div, real_modulo, real_line, real_weighted_sum, real_mean, real_to_integer, real_floor_integer, line_upper, dot, total, nearest_whole, floor_whole, IsNearestWhole};
 
 use crate::rounding::{nearest, signed_left, signed_nearest};
+use cdl_source::{LARGEST_INTEGER, LARGEST_REAL};
 use std::marker::Model;
 
 // The greatest magnitude of a count.
-pub(crate) const LIMIT: i64 = 10_000_000_000_000_000;
+pub(crate) const LIMIT: i64 = LARGEST_REAL as i64;
+
+// The greatest magnitude of a whole number of 32 bits.
+const WHOLE_LIMIT: i64 = LARGEST_INTEGER as i64;
 
 /// A decimal of six places: a count of millionths of magnitude at most 10^16. Contracts see the count.
 #[derive(Clone, Copy, Debug, PartialEq, Eq, Drop)]
@@ -51,7 +56,7 @@ fn sum_of_products(k: &[Real], u: &[Real]) -> i128
 fn sum_of_counts(u: &[Real]) -> i128
     requires few { length u.now ≤ 1024 }
     ensures value { result ≡ total u.now }
-    ensures small { unsigned_abs result ≤ 10000000000000000 * length u.now }
+    ensures small { unsigned_abs result ≤ LARGEST_REAL * length u.now }
 {
     let mut sum: i128 = 0;
     for i in 0..u.len() {
@@ -133,7 +138,7 @@ pub(crate) fn rounded(n: i128, d: i128) -> Option<Real>
 fn narrow_integer(whole: i64) -> Option<i32>
     ensures { result ≡ in_integer_range whole }
 {
-    if -2_147_483_647 <= whole && whole <= 2_147_483_647 {
+    if -WHOLE_LIMIT <= whole && whole <= WHOLE_LIMIT {
         Some(whole as i32)
     } else {
         None
@@ -256,7 +261,7 @@ pub fn weighted_sum(k: &[Real], u: &[Real]) -> Option<Real>
 pub fn mean_of_sum(sum: i128, count: usize) -> Real
     requires some { 0 < count }
     requires few { count ≤ 1024 }
-    requires small { unsigned_abs sum ≤ 10000000000000000 * count }
+    requires small { unsigned_abs sum ≤ LARGEST_REAL * count }
     ensures value { result ≡ near sum count }
     ensures nearest { IsNear sum count result }
 {

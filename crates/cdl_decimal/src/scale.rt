@@ -1,5 +1,6 @@
 // Whole numbers times powers of ten, as counts.
 ghost use Rattle.std.specs.Prelude.{◌≡◌, ◌^◌, ◌<◌, ◌≤◌, pos, ◌*ℤ◌, ◌<ℤ◌, unsigned_abs};
+ghost use Rattle.cdl_source.specs.declared.limits.TheConstants.{LARGEST_REAL};
 ghost use Rattle.cdl_decimal.specs.Near.{near, in_range};
 
 use crate::Real;
@@ -15,7 +16,7 @@ fn power_of_ten(k: u32) -> i128
 }
 
 fn wide_scaled(n: i128, k: u32) -> i128
-    requires small { unsigned_abs n ≤ 10000000000000000 }
+    requires small { unsigned_abs n ≤ LARGEST_REAL }
     requires few { k ≤ 16 }
     ensures { result ≡ n *ℤ pos (10 ^ k) }
 {

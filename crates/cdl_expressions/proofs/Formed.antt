@@ -198,7 +198,7 @@ abbrev pub inside : Option (List Modifier) → Bool
 inside None = true
 inside (Some ms) = list_all formed_modifier ms
 
-all_is : {A : Type 0} (p : A → Bool) (xs : List A) → all_of (map p xs) ≡ list_all p xs
+pub all_is : {A : Type 0} (p : A → Bool) (xs : List A) → all_of (map p xs) ≡ list_all p xs
 all_is p [] = refl
 all_is p (x ∷ xs) = ap (λ z. p x && z) (all_is p xs)
 

@@ -7,3 +7,4 @@ pub mod Texts
 pub mod Args
 pub mod Meant
 pub mod Formed
+pub mod Counted

@@ -1,5 +1,6 @@
 -- What the literals of a text mean is as a text may have it: strings are UTF-8, and numbers are not negative.
 use Rattle.std.proofs.Common.{◌≡◌, ◌⊎◌, ℕ, zero, suc, ◌*◌, ◌/◌, ◌^◌, ◌≤◌, ◌<◌, ℤ, pos, ◌*ℤ◌, ◌+ℤ◌, Bool, true, false, ◌&&◌, ◌||◌, ◌==◌, nat_le, cond, if◌then◌else◌, List, [], ◌∷◌, ◌++◌, length, slice_index, get_or, nat_lt, Option, Some, None, refl, sym, ap, ◌∙◌, subst, arith, append-nil, inl, inr}
+use Rattle.cdl_source.specs.declared.limits.TheConstants.{LARGEST_INTEGER}
 use Rattle.std.proofs.Math.Utf8.{encode, encodes, scalar, scalars}
 use Rattle.std.proofs.lemmas.Bool.{eqb-true}
 use Rattle.std.proofs.lemmas.Bool.Decides.{nat_tests}
@@ -11,7 +12,7 @@ use Rattle.cdl_decimal.specs.Near.{near}
 use Rattle.cdl_decimal.specs.Spells.{Parts, IsSign, none, plus, minus, CountIs, number, with_sign, upper, lower}
 use Rattle.cdl_decimal.proofs.NearLaws.{near_is, near_one}
 use Rattle.cdl_decimal.proofs.ScaleLaws.{power_positive}
-use Rattle.cdl_tree.specs.Literals.{most_integer, integer_of, IsReal, escaped, put, closed, unescaped, opened, string_of, behind}
+use Rattle.cdl_tree.specs.Literals.{integer_of, IsReal, escaped, put, closed, unescaped, opened, string_of, behind}
 use Rattle.cdl_tree.specs.Spelled.{begins_with_digit}
 use Rattle.cdl_tree.specs.Formed.{is_integer, is_not_negative}
 use Rattle.cdl_tree.proofs.Shapes.{split}
@@ -20,9 +21,9 @@ use Rattle.cdl_tree.proofs.Shapes.{split}
 
 pub integer_fits : (text : List ℕ) (z : ℤ) → integer_of text ≡ Some z → is_integer z ≡ true
 unfolding integer_of
-integer_fits text z e = go (list_all is_ascii_digit text) (nat_le (number text) most_integer) (number text) refl e
+integer_fits text z e = go (list_all is_ascii_digit text) (nat_le (number text) LARGEST_INTEGER) (number text) refl e
   where
-    go : (b c : Bool) (n : ℕ) → nat_le n most_integer ≡ c → (if b && c then Some (pos n) else None) ≡ Some z → is_integer z ≡ true
+    go : (b c : Bool) (n : ℕ) → nat_le n LARGEST_INTEGER ≡ c → (if b && c then Some (pos n) else None) ≡ Some z → is_integer z ≡ true
     go true true n f g = let same : pos n ≡ z = cc in subst (λ y. is_integer y ≡ true) same f
     go true false n f g = cc
     go false c n f g = cc

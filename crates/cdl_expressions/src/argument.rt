@@ -22,7 +22,8 @@ fn strings(tokens: &mut Cursor<'_>, most: usize) -> Result<(), Fault>
     Ok(())
 }
 
-/// `text = [ STRING { "+" STRING } ]`
+/// `text = [ STRING { "+" STRING } ]`, with at most `most` strings behind the first. It makes nothing. `Syntax` where no string
+/// stands behind a `+`, with the cursor there.
 #[tactic(auto, unfolding(crate::specs::Arguments::text_of))]
 pub fn text(tokens: &mut Cursor<'_>, most: usize) -> Result<(), Fault>
     ensures { Gives (spec.text_of most tokens.old) result tokens.new }
@@ -34,7 +35,8 @@ pub fn text(tokens: &mut Cursor<'_>, most: usize) -> Result<(), Fault>
     }
 }
 
-/// `[ kind expr ]`: an expression behind a word or a symbol, where that stands.
+/// An expression behind a token of this terminal, or `None` where that does not stand. In the expression expressions nest no
+/// deeper than `most`, and errors are those of `expr`.
 #[tactic(auto, unfolding(crate::specs::Arguments::optional))]
 pub fn optional(
     alloc: Global,
@@ -152,7 +154,9 @@ fn args(alloc: Global, tokens: &mut Cursor<'_>, depth: usize) -> Result<List<Mod
     .arguments(tokens)
 }
 
-/// `[ args ]`, in which arguments nest no deeper than `most`.
+/// `[ args ]`: the arguments between parentheses, or `None` where no parenthesis opens. Arguments and the expressions in them nest
+/// no deeper than `most`, and no list has more than `most` parts behind its first. `Syntax` where the tokens go on with none, with
+/// the cursor at the token that is refused; `OutOfMemory` where no memory was left.
 #[tactic(auto, unfolding(crate::specs::Arguments::optional_args))]
 pub fn optional_args(
     alloc: Global,

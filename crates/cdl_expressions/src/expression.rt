@@ -8,7 +8,7 @@ ghost use Rattle.cdl_reading.specs.Gives.{Gives, Nests};
 ghost use Rattle.cdl_reading.specs.Reading as reading;
 ghost use Rattle.cdl_expressions.specs.Expressions as spec;
 
-use cdl_reading::{Cursor, Fault};
+use cdl_reading::{Cursor, Fault, list, list_behind};
 use cdl_source::List;
 use cdl_tree::{Expr, Ident, Name, Node, Op, Terminal};
 use sqlite_items::Boxed;
@@ -66,19 +66,29 @@ fn factor(terminal: Terminal) -> Option<Op>
     }
 }
 
-/// The identifiers of `name = IDENT { "." IDENT }`, at most `most` behind the first.
+/// The identifiers of `name = IDENT { "." IDENT }`, at most `most` behind the first. `Syntax` where no identifier
+/// stands there or behind a period, with the cursor there; `OutOfMemory` where no memory was left.
+#[tactic(auto, unfolding(crate::specs::Expressions::name))]
 pub fn name(alloc: Global, tokens: &mut Cursor<'_>, most: usize) -> Result<List<Ident>, Fault>
     ensures { Gives (spec.name most tokens.old) result tokens.new }
 {
+    let ident = |tokens: &mut Cursor<'_>| tokens.ident(alloc);
+    list(tokens, Terminal::Period, most, &ident, List::new(alloc))
+}
+
+// The identifiers of a name, of which the first is read.
+fn parts(
+    alloc: Global,
+    tokens: &mut Cursor<'_>,
+    most: usize,
+    first: Ident,
+) -> Result<List<Ident>, Fault>
+    ensures { Gives (reading.list_from Terminal.Period reading.ident most (first ∷ []) tokens.old) result tokens.new }
+{
     let mut parts = List::new(alloc);
-    parts.push(tokens.ident(alloc)?)?;
-    for _turn in 0..most {
-        if !tokens.eat(Terminal::Period) {
-            return Ok(parts);
-        }
-        parts.push(tokens.ident(alloc)?)?;
-    }
-    Ok(parts)
+    parts.push(first)?;
+    let ident = |tokens: &mut Cursor<'_>| tokens.ident(alloc);
+    list_behind(tokens, Terminal::Period, most, &ident, parts)
 }
 
 /// Reads the productions of expressions.
@@ -227,21 +237,6 @@ impl<F: Fn(Global, &mut Cursor<'_>, usize) -> Result<Expr, Fault>> Grammar<F> {
         Ok(tokens.made(Node::Call { function, args }, start))
     }
 
-    // The other parts of a name behind its first one.
-    fn parts(&self, tokens: &mut Cursor<'_>, first: Ident) -> Result<List<Ident>, Fault>
-        ensures { Gives (reading.list_from Terminal.Period reading.ident self.now.depth (first ∷ []) tokens.old) result tokens.new }
-    {
-        let mut parts = List::new(self.alloc);
-        parts.push(first)?;
-        for _turn in 0..self.depth {
-            if !tokens.eat(Terminal::Period) {
-                return Ok(parts);
-            }
-            parts.push(tokens.ident(self.alloc)?)?;
-        }
-        Ok(parts)
-    }
-
     // A name and its subscripts, behind its first part.
     #[tactic(auto, unfolding(crate::specs::Expressions::refer, cdl_reading::specs::Reading::made))]
     fn refer(
@@ -253,7 +248,7 @@ impl<F: Fn(Global, &mut Cursor<'_>, usize) -> Result<Expr, Fault>> Grammar<F> {
         requires { Nests spec.expr self.now.depth (F.pre self.now.whole) (F.post self.now.whole) }
         ensures { Gives (spec.refer self.now.depth (spec.expr self.now.depth) first start.now tokens.old) result tokens.new }
     {
-        let parts = self.parts(tokens, first)?;
+        let parts = parts(self.alloc, tokens, self.depth, first)?;
         let subs = self.subscripts(tokens)?;
         let name = Name { parts };
         Ok(tokens.made(Node::Refer { name, subs }, start))
@@ -519,7 +514,10 @@ impl<F: Fn(Global, &mut Cursor<'_>, usize) -> Result<Expr, Fault>> Grammar<F> {
     }
 }
 
-/// An expression in which expressions nest no deeper than `depth`.
+/// An expression, with the span of its tokens. Expressions nest no deeper in it than `depth`, and no list or row of operators has
+/// more than `depth` parts behind its first: the count of tokens is always enough. `Syntax` where the tokens go on with none, with
+/// the cursor at the token that is refused; `OutOfMemory` where no memory was left. The stack grows with the nesting and with the
+/// operators.
 pub fn expr(alloc: Global, tokens: &mut Cursor<'_>, depth: usize) -> Result<Expr, Fault>
     ensures { Gives (spec.expr depth tokens.old) result tokens.new }
 {

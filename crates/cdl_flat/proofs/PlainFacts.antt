@@ -14,7 +14,7 @@ use Rattle.cdl_kinds.specs.Table.{ParameterRow}
 use Rattle.cdl_kinds.specs.Parameters.{parameters, parameter_row}
 use Rattle.cdl_kinds.specs.Ports.{inputs, outputs}
 use Rattle.cdl_kinds.specs.StateWords.{state_words}
-use Rattle.cdl_blocks.specs.MemorylessKinds.{is_memoryless}
+use Rattle.cdl_memoryless.specs.MemorylessKinds.{is_memoryless}
 use Rattle.cdl_values.specs.declared.value.Array.{Array}
 use Rattle.cdl_values.specs.declared.value.ValueType.{ValueType}
 use Rattle.cdl_values.specs.History.{Signature, Meaning, AreReady, AreValues, IsValue, word}
@@ -77,7 +77,6 @@ record IsPlainRow (k : Kind) : Type 0 where
   free : first_broken (conditions k []) ≡ None
   found : all_found k (port_count k) ≡ true
   fits : Fits k []
-  memoryless : is_memoryless k ≡ true
 
 plain_facts : (k : Kind) → is_plain_kind k ≡ true → IsPlainRow k
 unfolding plain_row is_plain_kind
@@ -95,7 +94,6 @@ plain_facts k h =
       free = no_broken (conditions k []) d.0;
       found = d.1;
       fits = record { rows = no_rows _ (parameters k) p.0 };
-      memoryless = p.1;
     }
 
 pub one_output : (k : Kind) → is_plain_kind k ≡ true → output_count k ≡ 1
@@ -112,9 +110,6 @@ plain_fits k h = (plain_facts k h).fits
 
 pub plain_keeps : (k : Kind) → is_plain_kind k ≡ true → Keeps k []
 plain_keeps k h = let f = plain_facts k h in record { fits = f.fits; holds = f.free }
-
-pub plain_memoryless : (k : Kind) → is_plain_kind k ≡ true → is_memoryless k ≡ true
-plain_memoryless k h = (plain_facts k h).memoryless
 
 at_is : (o : Option ℕ) (p : ℕ) → is_at o p ≡ true → o ≡ Some p
 unfolding is_at

@@ -7,7 +7,7 @@ use Rattle.cdl_values.specs.History.{IsValue, word}
 use Rattle.cdl_kinds.specs.Meanings.{meaning}
 use Rattle.cdl_kinds.specs.Parameters.{parameters}
 use Rattle.cdl_kinds.specs.Ports.{inputs, outputs, port_at}
-use Rattle.cdl_blocks.specs.MemorylessKinds.{is_memoryless}
+use Rattle.cdl_memoryless.specs.MemorylessKinds.{is_memoryless}
 
 unfoldable pub is_plain_kind : Kind → Bool
 is_plain_kind k = (length (parameters k) == 0) && is_memoryless k

@@ -10,9 +10,9 @@ use crate::declared::Declared;
 use crate::part::{End, Place};
 use crate::plain_kind::{input_count, port_named, port_type};
 use cdl_kinds::Kind;
-use cdl_values::ValueType;
 use cdl_table::Column;
 use cdl_tree::{Part, Ref};
+use cdl_values::ValueType;
 use std::alloc::Global;
 
 // The type of the column of that number.

@@ -9,9 +9,9 @@ use crate::declared::Declared;
 use crate::ends::straight_end;
 use crate::part::{Component, Edge, End, Source};
 use crate::plain_kind::input_count;
-use cdl_values::ValueType;
 use cdl_source::{MOST_INSTANCES, OutOfMemory};
 use cdl_tree::{Connect, Statement};
+use cdl_values::ValueType;
 use std::alloc::Global;
 
 fn same_type(a: ValueType, b: ValueType) -> bool
@@ -76,7 +76,10 @@ fn edge_between(outputs: usize, count: usize, from: End, to: End) -> Option<Edge
             None
         }
         (
-            End::Giver { component, value_type },
+            End::Giver {
+                component,
+                value_type,
+            },
             End::Output {
                 number: place,
                 value_type: other,
@@ -99,7 +102,10 @@ fn edge_between(outputs: usize, count: usize, from: End, to: End) -> Option<Edge
                 value_type: other,
             },
         ) => {
-            if same_type(value_type, other) && has_place(count, component, port) && giver < component {
+            if same_type(value_type, other)
+                && has_place(count, component, port)
+                && giver < component
+            {
                 let place = input_place(outputs, component, port);
                 let source = Source::Component(giver);
                 return Some(Edge { place, source });

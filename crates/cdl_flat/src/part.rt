@@ -1,7 +1,7 @@
 // What the items of a block are.
 use cdl_kinds::Kind;
-use cdl_values::ValueType;
 use cdl_source::Text;
+use cdl_values::ValueType;
 
 /// What the class of an item is.
 #[derive(Clone, Copy, Debug, PartialEq, Eq)]

@@ -5,11 +5,12 @@ ghost use Rattle.cdl_kinds.specs.Conditions.{Keeps};
 ghost use Rattle.cdl_values.specs.History.{IsTime, IsValue};
 ghost use Rattle.cdl_flat.specs.PlainKinds as spec;
 
-use cdl_blocks::{AnyBlock, is_memoryless};
-use cdl_values::words::read;
+use cdl_blocks::AnyBlock;
 use cdl_kinds::{Elementary, Kind, Params, Steps, check, parameters, port, port_count};
-use cdl_values::{NoValue, ValueType};
+use cdl_memoryless::is_memoryless;
 use cdl_source::List;
+use cdl_values::words::read;
+use cdl_values::{NoValue, ValueType};
 use std::alloc::Global;
 use std::sync::ledger::Ledger;
 

@@ -1,7 +1,7 @@
 -- Which state words stand for a history of a block, and which are sound for a time.
 use Rattle.std.specs.Prelude.{ℕ, zero, suc, ◌+◌, ◌≡◌, ◌⊎◌, ℤ, pos, negsuc, ◌*ℤ◌, ◌≤ℤ◌, Bool, true, false, List, [], ◌∷◌, Option, Some, None, drop, length, take, unsigned_abs}
 use Rattle.cdl_kinds.specs.declared.kind.Kind.{Kind}
-use Rattle.cdl_kinds.specs.declared.kind.Kind.TheVariants.{LogicalEdge, LogicalFallingEdge, LogicalChange, LogicalLatch, LogicalToggle, LogicalPre, LogicalTimer, LogicalTimerAccumulating, LogicalTrueDelay, LogicalTrueFalseHold, IntegersChange, IntegersOnCounter, RealsGreater, RealsLess, RealsGreaterThreshold, RealsLessThreshold, RealsHysteresis, DiscreteSampler, DiscreteZeroOrderHold, DiscreteUnitDelay, DiscreteTriggeredSampler, DiscreteTriggeredMax, DiscreteTriggeredMovingMean}
+use Rattle.cdl_kinds.specs.declared.kind.Kind.TheVariants as kind
 use Rattle.cdl_values.specs.declared.value.Array.{Array}
 use Rattle.cdl_values.specs.declared.value.ValueType.TheVariants.{Boolean, Integer, Real}
 use Rattle.cdl_values.specs.History.{AreValues, History, IsValue, before, bit, booleans, integers, last_time, reals, typed, word}
@@ -44,29 +44,29 @@ mean_words n h = before (negsuc 0) 1 h ∷ pos (length (take n (picked h))) ∷ 
 
 -- the state words that stand for a history of a block of the kind with these parameters
 abbrev pub state_of : Kind → List Array → History → List ℤ
-state_of LogicalEdge v h = before (bit (boolean_at v 0)) 0 h ∷ []
-state_of LogicalFallingEdge v h = before (bit (boolean_at v 0)) 0 h ∷ []
-state_of LogicalChange v h = before (bit (boolean_at v 0)) 0 h ∷ []
-state_of LogicalLatch v h = bit (latched h) ∷ before (pos 0) 0 h ∷ []
-state_of LogicalToggle v h = bit (toggled h) ∷ before (pos 0) 0 h ∷ []
-state_of LogicalPre v h = before (bit (boolean_at v 0)) 0 h ∷ []
-state_of LogicalTimer v h = time_word (began h) ∷ pos 0 ∷ []
-state_of LogicalTimerAccumulating v h = accumulated h ∷ last_time h ∷ before (pos 0) 0 h ∷ before (pos 1) 1 h ∷ []
-state_of LogicalTrueDelay v h = time_word (began h) ∷ bit (always_on h) ∷ []
-state_of LogicalTrueFalseHold v h = hold_words (held (real_at v 0) (real_at v 1) h)
-state_of IntegersChange v h = before (integer_at v 0) 0 h ∷ []
-state_of IntegersOnCounter v h = counted (integer_at v 0) h ∷ before (pos 1) 0 h ∷ before (pos 1) 1 h ∷ []
-state_of RealsGreater v h = bit (remembered (above (real_at v 0)) (boolean_at v 1) h) ∷ []
-state_of RealsLess v h = bit (remembered (below (real_at v 0)) (boolean_at v 1) h) ∷ []
-state_of RealsGreaterThreshold v h = bit (remembered (above_threshold (real_at v 0) (real_at v 1)) (boolean_at v 2) h) ∷ []
-state_of RealsLessThreshold v h = bit (remembered (below_threshold (real_at v 0) (real_at v 1)) (boolean_at v 2) h) ∷ []
-state_of RealsHysteresis v h = bit (remembered (between (real_at v 0) (real_at v 1)) (boolean_at v 2) h) ∷ []
-state_of DiscreteSampler v h = last_interval (real_at v 0) h ∷ first_or (pos 0) (sampled (real_at v 0) h) ∷ []
-state_of DiscreteZeroOrderHold v h = last_interval (real_at v 0) h ∷ first_or (pos 0) (sampled (real_at v 0) h) ∷ []
-state_of DiscreteUnitDelay v h = last_interval (real_at v 0) h ∷ second_or (real_at v 1) (sampled (real_at v 0) h) ∷ first_or (real_at v 1) (sampled (real_at v 0) h) ∷ []
-state_of DiscreteTriggeredSampler v h = before (pos 1) 1 h ∷ caught (real_at v 0) h ∷ []
-state_of DiscreteTriggeredMax v h = bit (has_begun h) ∷ before (pos 1) 1 h ∷ greatest (picked h) ∷ []
-state_of DiscreteTriggeredMovingMean v h = mean_words (unsigned_abs (integer_at v 0)) h
+state_of kind.LogicalEdge v h = before (bit (boolean_at v 0)) 0 h ∷ []
+state_of kind.LogicalFallingEdge v h = before (bit (boolean_at v 0)) 0 h ∷ []
+state_of kind.LogicalChange v h = before (bit (boolean_at v 0)) 0 h ∷ []
+state_of kind.LogicalLatch v h = bit (latched h) ∷ before (pos 0) 0 h ∷ []
+state_of kind.LogicalToggle v h = bit (toggled h) ∷ before (pos 0) 0 h ∷ []
+state_of kind.LogicalPre v h = before (bit (boolean_at v 0)) 0 h ∷ []
+state_of kind.LogicalTimer v h = time_word (began h) ∷ pos 0 ∷ []
+state_of kind.LogicalTimerAccumulating v h = accumulated h ∷ last_time h ∷ before (pos 0) 0 h ∷ before (pos 1) 1 h ∷ []
+state_of kind.LogicalTrueDelay v h = time_word (began h) ∷ bit (always_on h) ∷ []
+state_of kind.LogicalTrueFalseHold v h = hold_words (held (real_at v 0) (real_at v 1) h)
+state_of kind.IntegersChange v h = before (integer_at v 0) 0 h ∷ []
+state_of kind.IntegersOnCounter v h = counted (integer_at v 0) h ∷ before (pos 1) 0 h ∷ before (pos 1) 1 h ∷ []
+state_of kind.RealsGreater v h = bit (remembered (above (real_at v 0)) (boolean_at v 1) h) ∷ []
+state_of kind.RealsLess v h = bit (remembered (below (real_at v 0)) (boolean_at v 1) h) ∷ []
+state_of kind.RealsGreaterThreshold v h = bit (remembered (above_threshold (real_at v 0) (real_at v 1)) (boolean_at v 2) h) ∷ []
+state_of kind.RealsLessThreshold v h = bit (remembered (below_threshold (real_at v 0) (real_at v 1)) (boolean_at v 2) h) ∷ []
+state_of kind.RealsHysteresis v h = bit (remembered (between (real_at v 0) (real_at v 1)) (boolean_at v 2) h) ∷ []
+state_of kind.DiscreteSampler v h = last_interval (real_at v 0) h ∷ first_or (pos 0) (sampled (real_at v 0) h) ∷ []
+state_of kind.DiscreteZeroOrderHold v h = last_interval (real_at v 0) h ∷ first_or (pos 0) (sampled (real_at v 0) h) ∷ []
+state_of kind.DiscreteUnitDelay v h = last_interval (real_at v 0) h ∷ second_or (real_at v 1) (sampled (real_at v 0) h) ∷ first_or (real_at v 1) (sampled (real_at v 0) h) ∷ []
+state_of kind.DiscreteTriggeredSampler v h = before (pos 1) 1 h ∷ caught (real_at v 0) h ∷ []
+state_of kind.DiscreteTriggeredMax v h = bit (has_begun h) ∷ before (pos 1) 1 h ∷ greatest (picked h) ∷ []
+state_of kind.DiscreteTriggeredMovingMean v h = mean_words (unsigned_abs (integer_at v 0)) h
 state_of _ v h = []
 
 abbrev pub Stands : Kind → List Array → List ℤ → History → Type 0
@@ -130,27 +130,27 @@ pub record IsMeanState (n : ℕ) (state : List ℤ) : Type 0 where
 
 -- the state words may stand for some ticks, the last of them at this time or before, or for none
 abbrev pub IsSound : Kind → List Array → List ℤ → ℤ → Type 0
-IsSound LogicalEdge v state last = AreValues (booleans 1) state
-IsSound LogicalFallingEdge v state last = AreValues (booleans 1) state
-IsSound LogicalChange v state last = AreValues (booleans 1) state
-IsSound LogicalLatch v state last = AreValues (booleans 2) state
-IsSound LogicalToggle v state last = AreValues (booleans 2) state
-IsSound LogicalPre v state last = AreValues (booleans 1) state
-IsSound LogicalTimer v state last = IsTimerState state last
-IsSound LogicalTimerAccumulating v state last = IsAccumulatingState state last
-IsSound LogicalTrueDelay v state last = IsDelayState state last
-IsSound LogicalTrueFalseHold v state last = IsHoldState state last
-IsSound IntegersChange v state last = AreValues (integers 1) state
-IsSound IntegersOnCounter v state last = AreValues (typed (Integer ∷ Boolean ∷ Boolean ∷ [])) state
-IsSound RealsGreater v state last = AreValues (booleans 1) state
-IsSound RealsLess v state last = AreValues (booleans 1) state
-IsSound RealsGreaterThreshold v state last = AreValues (booleans 1) state
-IsSound RealsLessThreshold v state last = AreValues (booleans 1) state
-IsSound RealsHysteresis v state last = AreValues (booleans 1) state
-IsSound DiscreteSampler v state last = IsSamplerState (real_at v 0) state last
-IsSound DiscreteZeroOrderHold v state last = IsSamplerState (real_at v 0) state last
-IsSound DiscreteUnitDelay v state last = IsUnitDelayState (real_at v 0) state last
-IsSound DiscreteTriggeredSampler v state last = AreValues (typed (Boolean ∷ Real ∷ [])) state
-IsSound DiscreteTriggeredMax v state last = AreValues (typed (Boolean ∷ Boolean ∷ Real ∷ [])) state
-IsSound DiscreteTriggeredMovingMean v state last = IsMeanState (unsigned_abs (integer_at v 0)) state
+IsSound kind.LogicalEdge v state last = AreValues (booleans 1) state
+IsSound kind.LogicalFallingEdge v state last = AreValues (booleans 1) state
+IsSound kind.LogicalChange v state last = AreValues (booleans 1) state
+IsSound kind.LogicalLatch v state last = AreValues (booleans 2) state
+IsSound kind.LogicalToggle v state last = AreValues (booleans 2) state
+IsSound kind.LogicalPre v state last = AreValues (booleans 1) state
+IsSound kind.LogicalTimer v state last = IsTimerState state last
+IsSound kind.LogicalTimerAccumulating v state last = IsAccumulatingState state last
+IsSound kind.LogicalTrueDelay v state last = IsDelayState state last
+IsSound kind.LogicalTrueFalseHold v state last = IsHoldState state last
+IsSound kind.IntegersChange v state last = AreValues (integers 1) state
+IsSound kind.IntegersOnCounter v state last = AreValues (typed (Integer ∷ Boolean ∷ Boolean ∷ [])) state
+IsSound kind.RealsGreater v state last = AreValues (booleans 1) state
+IsSound kind.RealsLess v state last = AreValues (booleans 1) state
+IsSound kind.RealsGreaterThreshold v state last = AreValues (booleans 1) state
+IsSound kind.RealsLessThreshold v state last = AreValues (booleans 1) state
+IsSound kind.RealsHysteresis v state last = AreValues (booleans 1) state
+IsSound kind.DiscreteSampler v state last = IsSamplerState (real_at v 0) state last
+IsSound kind.DiscreteZeroOrderHold v state last = IsSamplerState (real_at v 0) state last
+IsSound kind.DiscreteUnitDelay v state last = IsUnitDelayState (real_at v 0) state last
+IsSound kind.DiscreteTriggeredSampler v state last = AreValues (typed (Boolean ∷ Real ∷ [])) state
+IsSound kind.DiscreteTriggeredMax v state last = AreValues (typed (Boolean ∷ Boolean ∷ Real ∷ [])) state
+IsSound kind.DiscreteTriggeredMovingMean v state last = IsMeanState (unsigned_abs (integer_at v 0)) state
 IsSound _ v state last = state ≡ []

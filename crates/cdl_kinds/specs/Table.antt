@@ -6,7 +6,7 @@ use Rattle.cdl_values.specs.declared.value.ValueType.TheVariants.{Boolean, Integ
 use Rattle.cdl_kinds.specs.declared.conditions.Condition.{Condition}
 use Rattle.cdl_kinds.specs.declared.conditions.Condition.TheVariants.{Count, Window, NotNegative, Positive, Share, Below}
 use Rattle.cdl_kinds.specs.declared.kind.Kind.{Kind}
-use Rattle.cdl_kinds.specs.declared.kind.Kind.TheVariants.{LogicalAnd, LogicalOr, LogicalNand, LogicalNor, LogicalXor, LogicalNot, LogicalMultiAnd, LogicalMultiOr, LogicalEdge, LogicalFallingEdge, LogicalChange, LogicalLatch, LogicalToggle, LogicalPre, LogicalSwitch, IntegersSwitch, RealsSwitch, LogicalTimer, LogicalTimerAccumulating, LogicalTrueDelay, LogicalTrueFalseHold, LogicalSourcesConstant, IntegersSourcesConstant, RealsSourcesConstant, LogicalSourcesPulse, IntegersAbs, RealsAbs, IntegersAdd, IntegersSubtract, IntegersMultiply, IntegersMax, IntegersMin, IntegersAddParameter, IntegersMultiSum, IntegersEqual, IntegersGreater, IntegersGreaterEqual, IntegersLess, IntegersLessEqual, IntegersGreaterThreshold, IntegersGreaterEqualThreshold, IntegersLessThreshold, IntegersLessEqualThreshold, IntegersChange, IntegersOnCounter, RealsAdd, RealsSubtract, RealsMultiply, RealsDivide, RealsMax, RealsMin, RealsAddParameter, RealsMultiplyByParameter, RealsAverage, RealsModulo, RealsMultiSum, RealsMultiMax, RealsMultiMin, RealsGreater, RealsLess, RealsGreaterThreshold, RealsLessThreshold, RealsHysteresis, RealsLimiter, RealsLine, ConversionsBooleanToInteger, ConversionsBooleanToReal, ConversionsIntegerToReal, ConversionsRealToInteger, DiscreteSampler, DiscreteZeroOrderHold, DiscreteUnitDelay, DiscreteTriggeredSampler, DiscreteTriggeredMax, DiscreteTriggeredMovingMean, RoutingBooleanScalarReplicator, RoutingIntegerScalarReplicator, RoutingRealScalarReplicator}
+use Rattle.cdl_kinds.specs.declared.kind.Kind.TheVariants as kind
 use Rattle.cdl_kinds.specs.declared.parameter.Preset.{Preset}
 use Rattle.cdl_kinds.specs.declared.parameter.Preset.TheVariants.{Absent, Same, Ones, Boolean as PBoolean, Integer as PInteger, Real as PReal}
 use Rattle.cdl_kinds.specs.declared.state_size.StateSize.{StateSize}
@@ -49,6 +49,34 @@ single n t = record { name = codes n; value_type = t; many = false }
 abbrev pub each : String → ValueType → Group
 each n t = record { name = codes n; value_type = t; many = true }
 
+-- the ports and parameters that most kinds have
+abbrev pub u : ValueType → Group
+u t = single "u" t
+
+abbrev pub u1 : ValueType → Group
+u1 t = single "u1" t
+
+abbrev pub u2 : ValueType → Group
+u2 t = single "u2" t
+
+abbrev pub u3 : ValueType → Group
+u3 t = single "u3" t
+
+abbrev pub us : ValueType → Group
+us t = each "u" t
+
+abbrev pub y : ValueType → Group
+y t = single "y" t
+
+abbrev pub ys : ValueType → Group
+ys t = each "y" t
+
+abbrev pub nin : ParameterRow
+nin = parameter "nin" Integer Absent
+
+abbrev pub nout : ParameterRow
+nout = parameter "nout" Integer Absent
+
 -- the outputs rest on the inputs at once
 abbrev pub entry : String → List ParameterRow → List Condition → List Group → List Group → StateSize → Row
 entry n p c i o s = record { name = codes n; parameters = p; conditions = c; ins = i; outs = o; direct = true; state = s }
@@ -59,81 +87,124 @@ late n p c i o s = record { name = codes n; parameters = p; conditions = c; ins 
 
 -- the row of a kind; the default of a Real is a count of millionths
 abbrev pub row : Kind → Row
-row LogicalAnd = entry "Logical.And" [] [] (single "u1" Boolean ∷ single "u2" Boolean ∷ []) (single "y" Boolean ∷ []) (Words 0)
-row LogicalOr = entry "Logical.Or" [] [] (single "u1" Boolean ∷ single "u2" Boolean ∷ []) (single "y" Boolean ∷ []) (Words 0)
-row LogicalNand = entry "Logical.Nand" [] [] (single "u1" Boolean ∷ single "u2" Boolean ∷ []) (single "y" Boolean ∷ []) (Words 0)
-row LogicalNor = entry "Logical.Nor" [] [] (single "u1" Boolean ∷ single "u2" Boolean ∷ []) (single "y" Boolean ∷ []) (Words 0)
-row LogicalXor = entry "Logical.Xor" [] [] (single "u1" Boolean ∷ single "u2" Boolean ∷ []) (single "y" Boolean ∷ []) (Words 0)
-row LogicalNot = entry "Logical.Not" [] [] (single "u" Boolean ∷ []) (single "y" Boolean ∷ []) (Words 0)
-row LogicalMultiAnd = entry "Logical.MultiAnd" (parameter "nin" Integer Absent ∷ []) (Count 0 ∷ []) (each "u" Boolean ∷ []) (single "y" Boolean ∷ []) (Words 0)
-row LogicalMultiOr = entry "Logical.MultiOr" (parameter "nin" Integer Absent ∷ []) (Count 0 ∷ []) (each "u" Boolean ∷ []) (single "y" Boolean ∷ []) (Words 0)
-row LogicalEdge = entry "Logical.Edge" (parameter "pre_u_start" Boolean (PBoolean false) ∷ []) [] (single "u" Boolean ∷ []) (single "y" Boolean ∷ []) (Words 1)
-row LogicalFallingEdge = entry "Logical.FallingEdge" (parameter "pre_u_start" Boolean (PBoolean false) ∷ []) [] (single "u" Boolean ∷ []) (single "y" Boolean ∷ []) (Words 1)
-row LogicalChange = entry "Logical.Change" (parameter "pre_u_start" Boolean (PBoolean false) ∷ []) [] (single "u" Boolean ∷ []) (single "y" Boolean ∷ []) (Words 1)
-row LogicalLatch = entry "Logical.Latch" [] [] (single "u" Boolean ∷ single "clr" Boolean ∷ []) (single "y" Boolean ∷ []) (Words 2)
-row LogicalToggle = entry "Logical.Toggle" [] [] (single "u" Boolean ∷ single "clr" Boolean ∷ []) (single "y" Boolean ∷ []) (Words 2)
-row LogicalPre = late "Logical.Pre" (parameter "pre_u_start" Boolean (PBoolean false) ∷ []) [] (single "u" Boolean ∷ []) (single "y" Boolean ∷ []) (Words 1)
-row LogicalSwitch = entry "Logical.Switch" [] [] (single "u1" Boolean ∷ single "u2" Boolean ∷ single "u3" Boolean ∷ []) (single "y" Boolean ∷ []) (Words 0)
-row IntegersSwitch = entry "Integers.Switch" [] [] (single "u1" Integer ∷ single "u2" Boolean ∷ single "u3" Integer ∷ []) (single "y" Integer ∷ []) (Words 0)
-row RealsSwitch = entry "Reals.Switch" [] [] (single "u1" Real ∷ single "u2" Boolean ∷ single "u3" Real ∷ []) (single "y" Real ∷ []) (Words 0)
-row LogicalTimer = entry "Logical.Timer" (parameter "t" Real (PReal (pos 0)) ∷ []) (NotNegative 0 ∷ []) (single "u" Boolean ∷ []) (single "y" Real ∷ single "passed" Boolean ∷ []) (Words 2)
-row LogicalTimerAccumulating = entry "Logical.TimerAccumulating" (parameter "t" Real (PReal (pos 0)) ∷ []) (NotNegative 0 ∷ []) (single "u" Boolean ∷ single "reset" Boolean ∷ []) (single "y" Real ∷ single "passed" Boolean ∷ []) (Words 4)
-row LogicalTrueDelay = entry "Logical.TrueDelay" (parameter "delayTime" Real Absent ∷ parameter "delayOnInit" Boolean (PBoolean false) ∷ []) (NotNegative 0 ∷ []) (single "u" Boolean ∷ []) (single "y" Boolean ∷ []) (Words 2)
-row LogicalTrueFalseHold = entry "Logical.TrueFalseHold" (parameter "trueHoldDuration" Real Absent ∷ parameter "falseHoldDuration" Real (Same 0) ∷ []) (NotNegative 0 ∷ NotNegative 1 ∷ []) (single "u" Boolean ∷ []) (single "y" Boolean ∷ []) (Words 2)
-row LogicalSourcesConstant = entry "Logical.Sources.Constant" (parameter "k" Boolean Absent ∷ []) [] [] (single "y" Boolean ∷ []) (Words 0)
-row IntegersSourcesConstant = entry "Integers.Sources.Constant" (parameter "k" Integer Absent ∷ []) [] [] (single "y" Integer ∷ []) (Words 0)
-row RealsSourcesConstant = entry "Reals.Sources.Constant" (parameter "k" Real Absent ∷ []) [] [] (single "y" Real ∷ []) (Words 0)
-row LogicalSourcesPulse = entry "Logical.Sources.Pulse" (parameter "width" Real (PReal (pos 500000)) ∷ parameter "period" Real Absent ∷ parameter "shift" Real (PReal (pos 0)) ∷ []) (Share 0 ∷ Positive 1 ∷ []) [] (single "y" Boolean ∷ []) (Words 0)
-row IntegersAbs = entry "Integers.Abs" [] [] (single "u" Integer ∷ []) (single "y" Integer ∷ []) (Words 0)
-row RealsAbs = entry "Reals.Abs" [] [] (single "u" Real ∷ []) (single "y" Real ∷ []) (Words 0)
-row IntegersAdd = entry "Integers.Add" [] [] (single "u1" Integer ∷ single "u2" Integer ∷ []) (single "y" Integer ∷ []) (Words 0)
-row IntegersSubtract = entry "Integers.Subtract" [] [] (single "u1" Integer ∷ single "u2" Integer ∷ []) (single "y" Integer ∷ []) (Words 0)
-row IntegersMultiply = entry "Integers.Multiply" [] [] (single "u1" Integer ∷ single "u2" Integer ∷ []) (single "y" Integer ∷ []) (Words 0)
-row IntegersMax = entry "Integers.Max" [] [] (single "u1" Integer ∷ single "u2" Integer ∷ []) (single "y" Integer ∷ []) (Words 0)
-row IntegersMin = entry "Integers.Min" [] [] (single "u1" Integer ∷ single "u2" Integer ∷ []) (single "y" Integer ∷ []) (Words 0)
-row IntegersAddParameter = entry "Integers.AddParameter" (parameter "p" Integer Absent ∷ []) [] (single "u" Integer ∷ []) (single "y" Integer ∷ []) (Words 0)
-row IntegersMultiSum = entry "Integers.MultiSum" (parameter "nin" Integer Absent ∷ factors Integer ∷ []) (Count 0 ∷ []) (each "u" Integer ∷ []) (single "y" Integer ∷ []) (Words 0)
-row IntegersEqual = entry "Integers.Equal" [] [] (single "u1" Integer ∷ single "u2" Integer ∷ []) (single "y" Boolean ∷ []) (Words 0)
-row IntegersGreater = entry "Integers.Greater" [] [] (single "u1" Integer ∷ single "u2" Integer ∷ []) (single "y" Boolean ∷ []) (Words 0)
-row IntegersGreaterEqual = entry "Integers.GreaterEqual" [] [] (single "u1" Integer ∷ single "u2" Integer ∷ []) (single "y" Boolean ∷ []) (Words 0)
-row IntegersLess = entry "Integers.Less" [] [] (single "u1" Integer ∷ single "u2" Integer ∷ []) (single "y" Boolean ∷ []) (Words 0)
-row IntegersLessEqual = entry "Integers.LessEqual" [] [] (single "u1" Integer ∷ single "u2" Integer ∷ []) (single "y" Boolean ∷ []) (Words 0)
-row IntegersGreaterThreshold = entry "Integers.GreaterThreshold" (parameter "t" Integer (PInteger (pos 0)) ∷ []) [] (single "u" Integer ∷ []) (single "y" Boolean ∷ []) (Words 0)
-row IntegersGreaterEqualThreshold = entry "Integers.GreaterEqualThreshold" (parameter "t" Integer (PInteger (pos 0)) ∷ []) [] (single "u" Integer ∷ []) (single "y" Boolean ∷ []) (Words 0)
-row IntegersLessThreshold = entry "Integers.LessThreshold" (parameter "t" Integer (PInteger (pos 0)) ∷ []) [] (single "u" Integer ∷ []) (single "y" Boolean ∷ []) (Words 0)
-row IntegersLessEqualThreshold = entry "Integers.LessEqualThreshold" (parameter "t" Integer (PInteger (pos 0)) ∷ []) [] (single "u" Integer ∷ []) (single "y" Boolean ∷ []) (Words 0)
-row IntegersChange = entry "Integers.Change" (parameter "pre_u_start" Integer (PInteger (pos 0)) ∷ []) [] (single "u" Integer ∷ []) (single "y" Boolean ∷ single "up" Boolean ∷ single "down" Boolean ∷ []) (Words 1)
-row IntegersOnCounter = entry "Integers.OnCounter" (parameter "y_start" Integer (PInteger (pos 0)) ∷ []) [] (single "trigger" Boolean ∷ single "reset" Boolean ∷ []) (single "y" Integer ∷ []) (Words 3)
-row RealsAdd = entry "Reals.Add" [] [] (single "u1" Real ∷ single "u2" Real ∷ []) (single "y" Real ∷ []) (Words 0)
-row RealsSubtract = entry "Reals.Subtract" [] [] (single "u1" Real ∷ single "u2" Real ∷ []) (single "y" Real ∷ []) (Words 0)
-row RealsMultiply = entry "Reals.Multiply" [] [] (single "u1" Real ∷ single "u2" Real ∷ []) (single "y" Real ∷ []) (Words 0)
-row RealsDivide = entry "Reals.Divide" [] [] (single "u1" Real ∷ single "u2" Real ∷ []) (single "y" Real ∷ []) (Words 0)
-row RealsMax = entry "Reals.Max" [] [] (single "u1" Real ∷ single "u2" Real ∷ []) (single "y" Real ∷ []) (Words 0)
-row RealsMin = entry "Reals.Min" [] [] (single "u1" Real ∷ single "u2" Real ∷ []) (single "y" Real ∷ []) (Words 0)
-row RealsAddParameter = entry "Reals.AddParameter" (parameter "p" Real Absent ∷ []) [] (single "u" Real ∷ []) (single "y" Real ∷ []) (Words 0)
-row RealsMultiplyByParameter = entry "Reals.MultiplyByParameter" (parameter "k" Real Absent ∷ []) [] (single "u" Real ∷ []) (single "y" Real ∷ []) (Words 0)
-row RealsAverage = entry "Reals.Average" [] [] (single "u1" Real ∷ single "u2" Real ∷ []) (single "y" Real ∷ []) (Words 0)
-row RealsModulo = entry "Reals.Modulo" [] [] (single "u1" Real ∷ single "u2" Real ∷ []) (single "y" Real ∷ []) (Words 0)
-row RealsMultiSum = entry "Reals.MultiSum" (parameter "nin" Integer Absent ∷ factors Real ∷ []) (Count 0 ∷ []) (each "u" Real ∷ []) (single "y" Real ∷ []) (Words 0)
-row RealsMultiMax = entry "Reals.MultiMax" (parameter "nin" Integer Absent ∷ []) (Count 0 ∷ []) (each "u" Real ∷ []) (single "y" Real ∷ []) (Words 0)
-row RealsMultiMin = entry "Reals.MultiMin" (parameter "nin" Integer Absent ∷ []) (Count 0 ∷ []) (each "u" Real ∷ []) (single "y" Real ∷ []) (Words 0)
-row RealsGreater = entry "Reals.Greater" (parameter "h" Real (PReal (pos 0)) ∷ parameter "pre_y_start" Boolean (PBoolean false) ∷ []) (NotNegative 0 ∷ []) (single "u1" Real ∷ single "u2" Real ∷ []) (single "y" Boolean ∷ []) (Words 1)
-row RealsLess = entry "Reals.Less" (parameter "h" Real (PReal (pos 0)) ∷ parameter "pre_y_start" Boolean (PBoolean false) ∷ []) (NotNegative 0 ∷ []) (single "u1" Real ∷ single "u2" Real ∷ []) (single "y" Boolean ∷ []) (Words 1)
-row RealsGreaterThreshold = entry "Reals.GreaterThreshold" (parameter "t" Real (PReal (pos 0)) ∷ parameter "h" Real (PReal (pos 0)) ∷ parameter "pre_y_start" Boolean (PBoolean false) ∷ []) (NotNegative 1 ∷ []) (single "u" Real ∷ []) (single "y" Boolean ∷ []) (Words 1)
-row RealsLessThreshold = entry "Reals.LessThreshold" (parameter "t" Real (PReal (pos 0)) ∷ parameter "h" Real (PReal (pos 0)) ∷ parameter "pre_y_start" Boolean (PBoolean false) ∷ []) (NotNegative 1 ∷ []) (single "u" Real ∷ []) (single "y" Boolean ∷ []) (Words 1)
-row RealsHysteresis = entry "Reals.Hysteresis" (parameter "uLow" Real Absent ∷ parameter "uHigh" Real Absent ∷ parameter "pre_y_start" Boolean (PBoolean false) ∷ []) (Below 0 1 ∷ []) (single "u" Real ∷ []) (single "y" Boolean ∷ []) (Words 1)
-row RealsLimiter = entry "Reals.Limiter" (parameter "uMax" Real Absent ∷ parameter "uMin" Real Absent ∷ []) (Below 1 0 ∷ []) (single "u" Real ∷ []) (single "y" Real ∷ []) (Words 0)
-row RealsLine = entry "Reals.Line" (parameter "limitBelow" Boolean (PBoolean true) ∷ parameter "limitAbove" Boolean (PBoolean true) ∷ []) [] (single "x1" Real ∷ single "f1" Real ∷ single "x2" Real ∷ single "f2" Real ∷ single "u" Real ∷ []) (single "y" Real ∷ []) (Words 0)
-row ConversionsBooleanToInteger = entry "Conversions.BooleanToInteger" (parameter "integerTrue" Integer (PInteger (pos 1)) ∷ parameter "integerFalse" Integer (PInteger (pos 0)) ∷ []) [] (single "u" Boolean ∷ []) (single "y" Integer ∷ []) (Words 0)
-row ConversionsBooleanToReal = entry "Conversions.BooleanToReal" (parameter "realTrue" Real (PReal (pos 1000000)) ∷ parameter "realFalse" Real (PReal (pos 0)) ∷ []) [] (single "u" Boolean ∷ []) (single "y" Real ∷ []) (Words 0)
-row ConversionsIntegerToReal = entry "Conversions.IntegerToReal" [] [] (single "u" Integer ∷ []) (single "y" Real ∷ []) (Words 0)
-row ConversionsRealToInteger = entry "Conversions.RealToInteger" [] [] (single "u" Real ∷ []) (single "y" Integer ∷ []) (Words 0)
-row DiscreteSampler = entry "Discrete.Sampler" (parameter "samplePeriod" Real Absent ∷ []) (Positive 0 ∷ []) (single "u" Real ∷ []) (single "y" Real ∷ []) (Words 2)
-row DiscreteZeroOrderHold = entry "Discrete.ZeroOrderHold" (parameter "samplePeriod" Real Absent ∷ []) (Positive 0 ∷ []) (single "u" Real ∷ []) (single "y" Real ∷ []) (Words 2)
-row DiscreteUnitDelay = late "Discrete.UnitDelay" (parameter "samplePeriod" Real Absent ∷ parameter "y_start" Real (PReal (pos 0)) ∷ []) (Positive 0 ∷ []) (single "u" Real ∷ []) (single "y" Real ∷ []) (Words 3)
-row DiscreteTriggeredSampler = entry "Discrete.TriggeredSampler" (parameter "y_start" Real (PReal (pos 0)) ∷ []) [] (single "u" Real ∷ single "trigger" Boolean ∷ []) (single "y" Real ∷ []) (Words 2)
-row DiscreteTriggeredMax = entry "Discrete.TriggeredMax" [] [] (single "u" Real ∷ single "trigger" Boolean ∷ []) (single "y" Real ∷ []) (Words 3)
-row DiscreteTriggeredMovingMean = entry "Discrete.TriggeredMovingMean" (parameter "n" Integer Absent ∷ []) (Window 0 ∷ []) (single "u" Real ∷ single "trigger" Boolean ∷ []) (single "y" Real ∷ []) (Samples 3)
-row RoutingBooleanScalarReplicator = entry "Routing.BooleanScalarReplicator" (parameter "nout" Integer Absent ∷ []) (Count 0 ∷ []) (single "u" Boolean ∷ []) (each "y" Boolean ∷ []) (Words 0)
-row RoutingIntegerScalarReplicator = entry "Routing.IntegerScalarReplicator" (parameter "nout" Integer Absent ∷ []) (Count 0 ∷ []) (single "u" Integer ∷ []) (each "y" Integer ∷ []) (Words 0)
-row RoutingRealScalarReplicator = entry "Routing.RealScalarReplicator" (parameter "nout" Integer Absent ∷ []) (Count 0 ∷ []) (single "u" Real ∷ []) (each "y" Real ∷ []) (Words 0)
+row kind.LogicalAnd = entry "Logical.And" [] [] (u1 Boolean ∷ u2 Boolean ∷ []) (y Boolean ∷ []) (Words 0)
+row kind.LogicalOr = entry "Logical.Or" [] [] (u1 Boolean ∷ u2 Boolean ∷ []) (y Boolean ∷ []) (Words 0)
+row kind.LogicalNand = entry "Logical.Nand" [] [] (u1 Boolean ∷ u2 Boolean ∷ []) (y Boolean ∷ []) (Words 0)
+row kind.LogicalNor = entry "Logical.Nor" [] [] (u1 Boolean ∷ u2 Boolean ∷ []) (y Boolean ∷ []) (Words 0)
+row kind.LogicalXor = entry "Logical.Xor" [] [] (u1 Boolean ∷ u2 Boolean ∷ []) (y Boolean ∷ []) (Words 0)
+row kind.LogicalNot = entry "Logical.Not" [] [] (u Boolean ∷ []) (y Boolean ∷ []) (Words 0)
+row kind.LogicalMultiAnd = entry "Logical.MultiAnd" (nin ∷ []) (Count 0 ∷ []) (us Boolean ∷ []) (y Boolean ∷ []) (Words 0)
+row kind.LogicalMultiOr = entry "Logical.MultiOr" (nin ∷ []) (Count 0 ∷ []) (us Boolean ∷ []) (y Boolean ∷ []) (Words 0)
+row kind.LogicalEdge = entry "Logical.Edge" (parameter "pre_u_start" Boolean (PBoolean false) ∷ []) [] (u Boolean ∷ []) (y Boolean ∷ []) (Words 1)
+row kind.LogicalFallingEdge =
+    entry "Logical.FallingEdge" (parameter "pre_u_start" Boolean (PBoolean false) ∷ []) [] (u Boolean ∷ []) (y Boolean ∷ []) (Words 1)
+row kind.LogicalChange = entry "Logical.Change" (parameter "pre_u_start" Boolean (PBoolean false) ∷ []) [] (u Boolean ∷ []) (y Boolean ∷ []) (Words 1)
+row kind.LogicalLatch = entry "Logical.Latch" [] [] (u Boolean ∷ single "clr" Boolean ∷ []) (y Boolean ∷ []) (Words 2)
+row kind.LogicalToggle = entry "Logical.Toggle" [] [] (u Boolean ∷ single "clr" Boolean ∷ []) (y Boolean ∷ []) (Words 2)
+row kind.LogicalPre = late "Logical.Pre" (parameter "pre_u_start" Boolean (PBoolean false) ∷ []) [] (u Boolean ∷ []) (y Boolean ∷ []) (Words 1)
+row kind.LogicalSwitch = entry "Logical.Switch" [] [] (u1 Boolean ∷ u2 Boolean ∷ u3 Boolean ∷ []) (y Boolean ∷ []) (Words 0)
+row kind.IntegersSwitch = entry "Integers.Switch" [] [] (u1 Integer ∷ u2 Boolean ∷ u3 Integer ∷ []) (y Integer ∷ []) (Words 0)
+row kind.RealsSwitch = entry "Reals.Switch" [] [] (u1 Real ∷ u2 Boolean ∷ u3 Real ∷ []) (y Real ∷ []) (Words 0)
+row kind.LogicalTimer =
+    entry "Logical.Timer" (parameter "t" Real (PReal (pos 0)) ∷ []) (NotNegative 0 ∷ []) (u Boolean ∷ []) (y Real ∷ single "passed" Boolean ∷ []) (Words 2)
+row kind.LogicalTimerAccumulating =
+    entry "Logical.TimerAccumulating" (parameter "t" Real (PReal (pos 0)) ∷ [])
+    (NotNegative 0 ∷ []) (u Boolean ∷ single "reset" Boolean ∷ []) (y Real ∷ single "passed" Boolean ∷ []) (Words 4)
+row kind.LogicalTrueDelay =
+    entry "Logical.TrueDelay" (parameter "delayTime" Real Absent ∷ parameter "delayOnInit" Boolean (PBoolean false) ∷ [])
+    (NotNegative 0 ∷ []) (u Boolean ∷ []) (y Boolean ∷ []) (Words 2)
+row kind.LogicalTrueFalseHold =
+    entry "Logical.TrueFalseHold" (parameter "trueHoldDuration" Real Absent ∷ parameter "falseHoldDuration" Real (Same 0) ∷ [])
+    (NotNegative 0 ∷ NotNegative 1 ∷ []) (u Boolean ∷ []) (y Boolean ∷ []) (Words 2)
+row kind.LogicalSourcesConstant = entry "Logical.Sources.Constant" (parameter "k" Boolean Absent ∷ []) [] [] (y Boolean ∷ []) (Words 0)
+row kind.IntegersSourcesConstant = entry "Integers.Sources.Constant" (parameter "k" Integer Absent ∷ []) [] [] (y Integer ∷ []) (Words 0)
+row kind.RealsSourcesConstant = entry "Reals.Sources.Constant" (parameter "k" Real Absent ∷ []) [] [] (y Real ∷ []) (Words 0)
+row kind.LogicalSourcesPulse =
+    entry "Logical.Sources.Pulse" (parameter "width" Real (PReal (pos 500000)) ∷ parameter "period" Real Absent ∷ parameter "shift" Real (PReal (pos 0)) ∷ [])
+    (Share 0 ∷ Positive 1 ∷ []) [] (y Boolean ∷ []) (Words 0)
+row kind.IntegersAbs = entry "Integers.Abs" [] [] (u Integer ∷ []) (y Integer ∷ []) (Words 0)
+row kind.RealsAbs = entry "Reals.Abs" [] [] (u Real ∷ []) (y Real ∷ []) (Words 0)
+row kind.IntegersAdd = entry "Integers.Add" [] [] (u1 Integer ∷ u2 Integer ∷ []) (y Integer ∷ []) (Words 0)
+row kind.IntegersSubtract = entry "Integers.Subtract" [] [] (u1 Integer ∷ u2 Integer ∷ []) (y Integer ∷ []) (Words 0)
+row kind.IntegersMultiply = entry "Integers.Multiply" [] [] (u1 Integer ∷ u2 Integer ∷ []) (y Integer ∷ []) (Words 0)
+row kind.IntegersMax = entry "Integers.Max" [] [] (u1 Integer ∷ u2 Integer ∷ []) (y Integer ∷ []) (Words 0)
+row kind.IntegersMin = entry "Integers.Min" [] [] (u1 Integer ∷ u2 Integer ∷ []) (y Integer ∷ []) (Words 0)
+row kind.IntegersAddParameter = entry "Integers.AddParameter" (parameter "p" Integer Absent ∷ []) [] (u Integer ∷ []) (y Integer ∷ []) (Words 0)
+row kind.IntegersMultiSum = entry "Integers.MultiSum" (nin ∷ factors Integer ∷ []) (Count 0 ∷ []) (us Integer ∷ []) (y Integer ∷ []) (Words 0)
+row kind.IntegersEqual = entry "Integers.Equal" [] [] (u1 Integer ∷ u2 Integer ∷ []) (y Boolean ∷ []) (Words 0)
+row kind.IntegersGreater = entry "Integers.Greater" [] [] (u1 Integer ∷ u2 Integer ∷ []) (y Boolean ∷ []) (Words 0)
+row kind.IntegersGreaterEqual = entry "Integers.GreaterEqual" [] [] (u1 Integer ∷ u2 Integer ∷ []) (y Boolean ∷ []) (Words 0)
+row kind.IntegersLess = entry "Integers.Less" [] [] (u1 Integer ∷ u2 Integer ∷ []) (y Boolean ∷ []) (Words 0)
+row kind.IntegersLessEqual = entry "Integers.LessEqual" [] [] (u1 Integer ∷ u2 Integer ∷ []) (y Boolean ∷ []) (Words 0)
+row kind.IntegersGreaterThreshold =
+    entry "Integers.GreaterThreshold" (parameter "t" Integer (PInteger (pos 0)) ∷ []) [] (u Integer ∷ []) (y Boolean ∷ []) (Words 0)
+row kind.IntegersGreaterEqualThreshold =
+    entry "Integers.GreaterEqualThreshold" (parameter "t" Integer (PInteger (pos 0)) ∷ []) [] (u Integer ∷ []) (y Boolean ∷ []) (Words 0)
+row kind.IntegersLessThreshold =
+    entry "Integers.LessThreshold" (parameter "t" Integer (PInteger (pos 0)) ∷ []) [] (u Integer ∷ []) (y Boolean ∷ []) (Words 0)
+row kind.IntegersLessEqualThreshold =
+    entry "Integers.LessEqualThreshold" (parameter "t" Integer (PInteger (pos 0)) ∷ []) [] (u Integer ∷ []) (y Boolean ∷ []) (Words 0)
+row kind.IntegersChange =
+    entry "Integers.Change" (parameter "pre_u_start" Integer (PInteger (pos 0)) ∷ [])
+    [] (u Integer ∷ []) (y Boolean ∷ single "up" Boolean ∷ single "down" Boolean ∷ []) (Words 1)
+row kind.IntegersOnCounter =
+    entry "Integers.OnCounter" (parameter "y_start" Integer (PInteger (pos 0)) ∷ [])
+    [] (single "trigger" Boolean ∷ single "reset" Boolean ∷ []) (y Integer ∷ []) (Words 3)
+row kind.RealsAdd = entry "Reals.Add" [] [] (u1 Real ∷ u2 Real ∷ []) (y Real ∷ []) (Words 0)
+row kind.RealsSubtract = entry "Reals.Subtract" [] [] (u1 Real ∷ u2 Real ∷ []) (y Real ∷ []) (Words 0)
+row kind.RealsMultiply = entry "Reals.Multiply" [] [] (u1 Real ∷ u2 Real ∷ []) (y Real ∷ []) (Words 0)
+row kind.RealsDivide = entry "Reals.Divide" [] [] (u1 Real ∷ u2 Real ∷ []) (y Real ∷ []) (Words 0)
+row kind.RealsMax = entry "Reals.Max" [] [] (u1 Real ∷ u2 Real ∷ []) (y Real ∷ []) (Words 0)
+row kind.RealsMin = entry "Reals.Min" [] [] (u1 Real ∷ u2 Real ∷ []) (y Real ∷ []) (Words 0)
+row kind.RealsAddParameter = entry "Reals.AddParameter" (parameter "p" Real Absent ∷ []) [] (u Real ∷ []) (y Real ∷ []) (Words 0)
+row kind.RealsMultiplyByParameter = entry "Reals.MultiplyByParameter" (parameter "k" Real Absent ∷ []) [] (u Real ∷ []) (y Real ∷ []) (Words 0)
+row kind.RealsAverage = entry "Reals.Average" [] [] (u1 Real ∷ u2 Real ∷ []) (y Real ∷ []) (Words 0)
+row kind.RealsModulo = entry "Reals.Modulo" [] [] (u1 Real ∷ u2 Real ∷ []) (y Real ∷ []) (Words 0)
+row kind.RealsMultiSum = entry "Reals.MultiSum" (nin ∷ factors Real ∷ []) (Count 0 ∷ []) (us Real ∷ []) (y Real ∷ []) (Words 0)
+row kind.RealsMultiMax = entry "Reals.MultiMax" (nin ∷ []) (Count 0 ∷ []) (us Real ∷ []) (y Real ∷ []) (Words 0)
+row kind.RealsMultiMin = entry "Reals.MultiMin" (nin ∷ []) (Count 0 ∷ []) (us Real ∷ []) (y Real ∷ []) (Words 0)
+row kind.RealsGreater =
+    entry "Reals.Greater" (parameter "h" Real (PReal (pos 0)) ∷ parameter "pre_y_start" Boolean (PBoolean false) ∷ [])
+    (NotNegative 0 ∷ []) (u1 Real ∷ u2 Real ∷ []) (y Boolean ∷ []) (Words 1)
+row kind.RealsLess =
+    entry "Reals.Less" (parameter "h" Real (PReal (pos 0)) ∷ parameter "pre_y_start" Boolean (PBoolean false) ∷ [])
+    (NotNegative 0 ∷ []) (u1 Real ∷ u2 Real ∷ []) (y Boolean ∷ []) (Words 1)
+row kind.RealsGreaterThreshold =
+    entry "Reals.GreaterThreshold" (parameter "t" Real (PReal (pos 0)) ∷ parameter "h" Real (PReal (pos 0)) ∷ parameter "pre_y_start" Boolean (PBoolean false) ∷ [])
+    (NotNegative 1 ∷ []) (u Real ∷ []) (y Boolean ∷ []) (Words 1)
+row kind.RealsLessThreshold =
+    entry "Reals.LessThreshold" (parameter "t" Real (PReal (pos 0)) ∷ parameter "h" Real (PReal (pos 0)) ∷ parameter "pre_y_start" Boolean (PBoolean false) ∷ [])
+    (NotNegative 1 ∷ []) (u Real ∷ []) (y Boolean ∷ []) (Words 1)
+row kind.RealsHysteresis =
+    entry "Reals.Hysteresis" (parameter "uLow" Real Absent ∷ parameter "uHigh" Real Absent ∷ parameter "pre_y_start" Boolean (PBoolean false) ∷ [])
+    (Below 0 1 ∷ []) (u Real ∷ []) (y Boolean ∷ []) (Words 1)
+row kind.RealsLimiter =
+    entry "Reals.Limiter" (parameter "uMax" Real Absent ∷ parameter "uMin" Real Absent ∷ []) (Below 1 0 ∷ []) (u Real ∷ []) (y Real ∷ []) (Words 0)
+row kind.RealsLine =
+    entry "Reals.Line" (parameter "limitBelow" Boolean (PBoolean true) ∷ parameter "limitAbove" Boolean (PBoolean true) ∷ [])
+    [] (single "x1" Real ∷ single "f1" Real ∷ single "x2" Real ∷ single "f2" Real ∷ u Real ∷ []) (y Real ∷ []) (Words 0)
+row kind.ConversionsBooleanToInteger =
+    entry "Conversions.BooleanToInteger" (parameter "integerTrue" Integer (PInteger (pos 1)) ∷ parameter "integerFalse" Integer (PInteger (pos 0)) ∷ [])
+    [] (u Boolean ∷ []) (y Integer ∷ []) (Words 0)
+row kind.ConversionsBooleanToReal =
+    entry "Conversions.BooleanToReal" (parameter "realTrue" Real (PReal (pos 1000000)) ∷ parameter "realFalse" Real (PReal (pos 0)) ∷ [])
+    [] (u Boolean ∷ []) (y Real ∷ []) (Words 0)
+row kind.ConversionsIntegerToReal = entry "Conversions.IntegerToReal" [] [] (u Integer ∷ []) (y Real ∷ []) (Words 0)
+row kind.ConversionsRealToInteger = entry "Conversions.RealToInteger" [] [] (u Real ∷ []) (y Integer ∷ []) (Words 0)
+row kind.DiscreteSampler =
+    entry "Discrete.Sampler" (parameter "samplePeriod" Real Absent ∷ []) (Positive 0 ∷ []) (u Real ∷ []) (y Real ∷ []) (Words 2)
+row kind.DiscreteZeroOrderHold =
+    entry "Discrete.ZeroOrderHold" (parameter "samplePeriod" Real Absent ∷ []) (Positive 0 ∷ []) (u Real ∷ []) (y Real ∷ []) (Words 2)
+row kind.DiscreteUnitDelay =
+    late "Discrete.UnitDelay" (parameter "samplePeriod" Real Absent ∷ parameter "y_start" Real (PReal (pos 0)) ∷ [])
+    (Positive 0 ∷ []) (u Real ∷ []) (y Real ∷ []) (Words 3)
+row kind.DiscreteTriggeredSampler =
+    entry "Discrete.TriggeredSampler" (parameter "y_start" Real (PReal (pos 0)) ∷ []) [] (u Real ∷ single "trigger" Boolean ∷ []) (y Real ∷ []) (Words 2)
+row kind.DiscreteTriggeredMax = entry "Discrete.TriggeredMax" [] [] (u Real ∷ single "trigger" Boolean ∷ []) (y Real ∷ []) (Words 3)
+row kind.DiscreteTriggeredMovingMean =
+    entry "Discrete.TriggeredMovingMean" (parameter "n" Integer Absent ∷ []) (Window 0 ∷ []) (u Real ∷ single "trigger" Boolean ∷ []) (y Real ∷ []) (Samples 3)
+row kind.RoutingBooleanScalarReplicator =
+    entry "Routing.BooleanScalarReplicator" (nout ∷ []) (Count 0 ∷ []) (u Boolean ∷ []) (ys Boolean ∷ []) (Words 0)
+row kind.RoutingIntegerScalarReplicator =
+    entry "Routing.IntegerScalarReplicator" (nout ∷ []) (Count 0 ∷ []) (u Integer ∷ []) (ys Integer ∷ []) (Words 0)
+row kind.RoutingRealScalarReplicator = entry "Routing.RealScalarReplicator" (nout ∷ []) (Count 0 ∷ []) (u Real ∷ []) (ys Real ∷ []) (Words 0)

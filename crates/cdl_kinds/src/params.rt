@@ -1,5 +1,6 @@
 // The values of a kind's parameters, and its conditions on them.
 ghost use Rattle.std.specs.Prelude.{◌≡◌, ◌≤◌, ◌^◌, IfOk, pos, unsigned_abs};
+ghost use Rattle.cdl_source.specs.declared.limits.TheConstants.{LARGEST_INTEGER};
 ghost use Rattle.cdl_kinds.specs.Ports.{nin_or_nout};
 ghost use Rattle.cdl_values.specs.Values.{HaveIntegers, boolean_at, integer_at, items_at, real_at};
 
@@ -122,7 +123,7 @@ impl Params {
     /// The Integer that is the value of that number; 0 where it is none.
     pub fn integer(&self, i: usize) -> i32
         ensures value { result ≡ integer_at self.now i }
-        ensures range { unsigned_abs result ≤ 2147483647 }
+        ensures range { unsigned_abs result ≤ LARGEST_INTEGER }
     {
         integer_at(self.values.items(), i)
     }

@@ -4,7 +4,7 @@ use Rattle.std.proofs.lemmas.Bool.{leb-true}
 use Rattle.std.proofs.lemmas.Bool.Decides.{nat_tests}
 use Rattle.std.proofs.lemmas.List.{drop-drop, drop_all}
 use Rattle.std.proofs.Math.Seq.{drop-append_seam}
-use Rattle.cdl_source.specs.declared.place.Sort.{Sort}
+use Rattle.cdl_source.specs.declared.place.TokenSort.{TokenSort}
 use Rattle.cdl_source.specs.declared.place.Token.{Token}
 use Rattle.cdl_lex.specs.Spellings.{Bytes}
 use Rattle.cdl_lex.specs.Splits.{IsToken, IsGap, blank, line, block, token, Reaches, here, gap_then, token_then, mark, Begins, Splits, NothingBegins}
@@ -25,14 +25,14 @@ goes_on {at = at} {b = b} {front = front} {more = more} f g = record {
   reaches = λ ts r h. subst (λ z. Reaches at b z r) (sym (append_assoc front more ts)) (f.reaches (more ++ ts) r (g.reaches ts r h));
 }
 
-piece_continues : (at : ℕ) (b : Bytes) (k : Option Sort) (n : ℕ) → BeginsWith b k n → Continues at b (listed at k n) (at + n) (drop n b)
+piece_continues : (at : ℕ) (b : Bytes) (k : Option TokenSort) (n : ℕ) → BeginsWith b k n → Continues at b (listed at k n) (at + n) (drop n b)
 piece_continues at _ _ _ (with_gap s b g) =
     subst (Continues at (s ++ b) [] (at + length s)) (sym (drop-append_seam s b)) (record { reaches = λ ts r h. gap_then g h })
 piece_continues at _ _ _ (with_token s b {k} t) =
     subst (Continues at (s ++ b) (token k at (length s) ∷ []) (at + length s)) (sym (drop-append_seam s b)) (record { reaches = λ ts r h. token_then t h })
 
 -- one piece more
-pub one_more : (from at n : ℕ) (b bytes : Bytes) (found : List Token) (k : Option Sort) → Continues from b found at (drop at bytes) → BeginsWith (drop at bytes) k n
+pub one_more : (from at n : ℕ) (b bytes : Bytes) (found : List Token) (k : Option TokenSort) → Continues from b found at (drop at bytes) → BeginsWith (drop at bytes) k n
     → Continues from b (found ++ listed at k n) (at + n) (drop (at + n) bytes)
 one_more from at n b bytes found k h p =
     goes_on h (subst (Continues at (drop at bytes) (listed at k n) (at + n)) (drop-drop n at bytes) (piece_continues at (drop at bytes) k n p))
@@ -51,7 +51,7 @@ stuck bytes found at h none =
 -- No gap and no token begins the bytes.
 pub record Halts (r : Bytes) : Type 0 where
   pub no_gap : (s b : Bytes) → r ≡ s ++ b → IsGap s b → ⊥
-  pub no_token : (s b : Bytes) (k : Sort) → r ≡ s ++ b → IsToken s k b → ⊥
+  pub no_token : (s b : Bytes) (k : TokenSort) → r ≡ s ++ b → IsToken s k b → ⊥
 
 gap_has_bytes : {s b : Bytes} → IsGap s b → s ≡ [] → ⊥
 gap_has_bytes (blank c b f) e = cc

@@ -4,7 +4,7 @@ use Rattle.std.proofs.lemmas.Bool.{eqb-false}
 use Rattle.std.proofs.lemmas.Bool.Decides.{nat_tests}
 use Rattle.std.specs.List.{list_all, prefix_len}
 use Rattle.cdl_source.specs.Identifiers.{is_digit, is_initial}
-use Rattle.cdl_source.specs.declared.place.Sort.{Sort}
+use Rattle.cdl_source.specs.declared.place.TokenSort.{TokenSort}
 use Rattle.cdl_lex.specs.Spellings.{Bytes, is_blank, Spelling}
 use Rattle.cdl_lex.specs.Splits.{IsToken, is_inner, EndsLine, HoldsNoClose, IsGap, blank, line, block}
 use Rattle.cdl_lex.specs.Steps.{block_len}
@@ -35,7 +35,7 @@ fronts (c ∷ s) b (y ∷ t) r e =
     let tail : s ++ b ≡ t ++ r = cc in
     subst (λ z. Fronts (c ∷ s) b (z ∷ t) r) head (one_more c s b t r (fronts s b t r tail))
 
-pub one_token : (s b t r : Bytes) (k j : Sort) → IsToken s k b → IsToken t j r → s ++ b ≡ t ++ r → (s ≡ t) × (b ≡ r) × (k ≡ j)
+pub one_token : (s b t r : Bytes) (k j : TokenSort) → IsToken s k b → IsToken t j r → s ++ b ≡ t ++ r → (s ≡ t) × (b ≡ r) × (k ≡ j)
 one_token s b t r k j x y e = go s b t r (fronts s b t r e) x y
   where
     go : (s b t r : Bytes) → Fronts s b t r → IsToken s k b → IsToken t j r → (s ≡ t) × (b ≡ r) × (k ≡ j)
@@ -108,12 +108,12 @@ blank_head c f =
     no_quote : (c : ℕ) → is_blank c ≡ true → (c == 34) ≡ false
     no_quote c e = grind (arith, nat_tests)
 
-blank_no_spelling : (c : ℕ) (s : Bytes) (k : Sort) → is_blank c ≡ true → Spelling (c ∷ s) k → ⊥
+blank_no_spelling : (c : ℕ) (s : Bytes) (k : TokenSort) → is_blank c ≡ true → Spelling (c ∷ s) k → ⊥
 blank_no_spelling c s k f x =
     let p : Fits Sign c s = subst (λ z. Fits z c s) (blank_head c f) (fits x c s refl) in
     let never : true ≡ false = sym f ∙ (plain_is c (symbol_is_plain c p.0)).no_blank in cc
 
-comment_no_token : (d : ℕ) (b t r : Bytes) (k : Sort) → (d == 47 || d == 42) ≡ true → IsToken t k r → 47 ∷ d ∷ b ≡ t ++ r → ⊥
+comment_no_token : (d : ℕ) (b t r : Bytes) (k : TokenSort) → (d == 47 || d == 42) ≡ true → IsToken t k r → 47 ∷ d ∷ b ≡ t ++ r → ⊥
 comment_no_token d b [] r k f y e = not_empty y.spelling refl
 comment_no_token d b (c ∷ t) r k f y e =
     let same : c ≡ 47 = sym (first_same 47 c (t ++ r) (d ∷ b) e) in
@@ -122,7 +122,7 @@ comment_no_token d b (c ∷ t) r k f y e =
     let behind : r ≡ d ∷ b = sym (rest_same 47 47 r (d ∷ b) (e ∙ ap (λ z. z ++ r) whole)) in
     let never : true ≡ false = sym f ∙ y.apart whole d b behind in cc
 
-pub not_both : (s b t r : Bytes) (k : Sort) → IsGap s b → IsToken t k r → s ++ b ≡ t ++ r → ⊥
+pub not_both : (s b t r : Bytes) (k : TokenSort) → IsGap s b → IsToken t k r → s ++ b ≡ t ++ r → ⊥
 not_both _ _ t r k (blank c b f) y e = go t y.spelling e
   where
     go : (t : Bytes) → Spelling t k → c ∷ b ≡ t ++ r → ⊥

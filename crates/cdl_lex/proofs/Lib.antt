@@ -10,3 +10,4 @@ pub mod AtTokens
 pub mod Great
 pub mod Nested
 pub mod First
+pub mod Unbroken

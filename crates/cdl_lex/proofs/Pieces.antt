@@ -5,8 +5,8 @@ use Rattle.std.proofs.lemmas.Bool.Decides.{nat_tests}
 use Rattle.std.proofs.Math.Seq.{take-append_seam}
 use Rattle.std.specs.List.{list_all, prefix_len}
 use Rattle.cdl_source.specs.Identifiers.{is_digit, is_initial, is_word_byte}
-use Rattle.cdl_source.specs.declared.place.Sort.{Sort}
-use Rattle.cdl_source.specs.declared.place.Sort.TheVariants.{Integer, Real, Str, Symbol}
+use Rattle.cdl_source.specs.declared.place.TokenSort.{TokenSort}
+use Rattle.cdl_source.specs.declared.place.TokenSort.TheVariants.{Integer, Real, Str, Symbol}
 use Rattle.cdl_decimal.specs.Spells.{AllDigits, IsFraction, IsExponent}
 use Rattle.cdl_lex.specs.Spellings.{Bytes, is_blank, symbols, is_symbol, is_pair, Spelling, integer, real, string, symbol, pair}
 use Rattle.cdl_lex.specs.Splits.{IsLongest, StandsApart, IsToken, is_inner, IsGap, blank, line, block, NothingBegins}
@@ -68,7 +68,7 @@ number_longest d w b h size x m r k e y =
     let more : length (w ++ x ∷ m) ≡ length w + length (x ∷ m) = length-append w (x ∷ m) in
     let never : ⊥ = omega arith in never
 
-number_token : (w b : Bytes) {k : Sort} → 0 < length w → is_digit (get_or w 0 0) ≡ true → Spelling w k → number_len (w ++ b) ≡ length w → BeginsWith (w ++ b) (Some k) (length w)
+number_token : (w b : Bytes) {k : TokenSort} → 0 < length w → is_digit (get_or w 0 0) ≡ true → Spelling w k → number_len (w ++ b) ≡ length w → BeginsWith (w ++ b) (Some k) (length w)
 number_token [] b some h x size = let never : ⊥ = omega arith in absurd never
 number_token (d ∷ w) b some h x size =
     with_token (d ∷ w) b (record { spelling = x; longest = number_longest d w b h size; apart = apart d w b (digit_no_slash d h) })
@@ -139,7 +139,7 @@ first_same : (c d : ℕ) (s b : Bytes) → c ∷ b ≡ d ∷ s → d ≡ c
 first_same c d s b e = cc
 
 -- a byte that is neither a blank nor a slash, with which no spelling begins
-nothing_by : (c : ℕ) (b : Bytes) → is_blank c ≡ false → (c == 47) ≡ false → ((s r : Bytes) (k : Sort) → c ∷ b ≡ c ∷ (s ++ r) → Spelling (c ∷ s) k → ⊥) → NothingBegins (c ∷ b)
+nothing_by : (c : ℕ) (b : Bytes) → is_blank c ≡ false → (c == 47) ≡ false → ((s r : Bytes) (k : TokenSort) → c ∷ b ≡ c ∷ (s ++ r) → Spelling (c ∷ s) k → ⊥) → NothingBegins (c ∷ b)
 nothing_by c b no_blank no_slash none = record { more = λ e. cc; no_gap = λ s r e g. gap_no s r e g; no_token = λ s r k e t. token_no s r k e t.spelling }
   where
     gap_no : (s r : Bytes) → c ∷ b ≡ s ++ r → IsGap s r → ⊥
@@ -147,7 +147,7 @@ nothing_by c b no_blank no_slash none = record { more = λ e. cc; no_gap = λ s 
     gap_no _ _ e (line s r all ends) = eqb-false c 47 no_slash (sym (first_same c 47 _ b e))
     gap_no _ _ e (block s r h) = eqb-false c 47 no_slash (sym (first_same c 47 _ b e))
 
-    token_no : (s r : Bytes) (k : Sort) → c ∷ b ≡ s ++ r → Spelling s k → ⊥
+    token_no : (s r : Bytes) (k : TokenSort) → c ∷ b ≡ s ++ r → Spelling s k → ⊥
     token_no [] r k e x = not_empty x refl
     token_no (d ∷ s) r k e x =
         let same = first_same c d (s ++ r) b e in
@@ -160,7 +160,7 @@ pub no_string : (b : Bytes) → 0 < length b → get_or b 0 0 ≡ 34 → inside_
 no_string [] some q e = let never : ⊥ = omega arith in absurd never
 no_string (c ∷ b) some q e = subst (λ z. NothingBegins (z ∷ b)) (sym q) (nothing_by 34 b refl refl none)
   where
-    none : (s r : Bytes) (k : Sort) → 34 ∷ b ≡ 34 ∷ (s ++ r) → Spelling (34 ∷ s) k → ⊥
+    none : (s r : Bytes) (k : TokenSort) → 34 ∷ b ≡ 34 ∷ (s ++ r) → Spelling (34 ∷ s) k → ⊥
     none s r k f x =
         let h : Fits Quote 34 s = fits x 34 s refl in
         let whole : b ≡ h.0 ++ 34 ∷ r = tail_of 34 b (s ++ r) f ∙ ap (λ z. z ++ r) h.2 ∙ append_assoc h.0 (34 ∷ []) r in
@@ -175,7 +175,7 @@ pub no_sign : (b : Bytes) → 0 < length b → IsSign (get_or b 0 0) → is_symb
 no_sign [] some h f = let never : ⊥ = omega arith in absurd never
 no_sign (c ∷ b) some h f = nothing_by c b h.no_blank h.no_slash none
   where
-    none : (s r : Bytes) (k : Sort) → c ∷ b ≡ c ∷ (s ++ r) → Spelling (c ∷ s) k → ⊥
+    none : (s r : Bytes) (k : TokenSort) → c ∷ b ≡ c ∷ (s ++ r) → Spelling (c ∷ s) k → ⊥
     none s r k e x =
         let p : Fits Sign c s = subst (λ z. Fits z c s) (head_sign c (as_plain c h)) (fits x c s refl) in
         let never : true ≡ false = sym p.0 ∙ f in cc
@@ -256,7 +256,7 @@ block_begins b n more e f h =
     subst (λ z. BeginsWith z None (2 + n)) whole (block_at (drop 2 b) n h)
 
 -- what a spelling that begins with a slash is
-pub slash_alone : (s : Bytes) (k : Sort) → Spelling (47 ∷ s) k → s ≡ []
+pub slash_alone : (s : Bytes) (k : TokenSort) → Spelling (47 ∷ s) k → s ≡ []
 slash_alone s k x =
     let p : Fits Sign 47 s = fits x 47 s refl in
     elim p.1 [ inl e ↦ e | inr q ↦ let never : false ≡ true = q.2 in cc ]
@@ -276,7 +276,7 @@ open_block b e = record { more = λ f. cc; no_gap = λ s r f g. gap_no s r f g; 
         let rest : b ≡ (s ++ 42 ∷ 47 ∷ []) ++ r = tail_of 42 b _ (tail_of 47 (42 ∷ b) _ f) in
         let never : None ≡ Some (length s + 2) = sym e ∙ ap block_len (rest ∙ append_assoc s (42 ∷ 47 ∷ []) r) ∙ block_most s r h in cc
 
-    token_no : (s r : Bytes) (k : Sort) → 47 ∷ 42 ∷ b ≡ s ++ r → IsToken s k r → ⊥
+    token_no : (s r : Bytes) (k : TokenSort) → 47 ∷ 42 ∷ b ≡ s ++ r → IsToken s k r → ⊥
     token_no [] r k f t = not_empty t.spelling refl
     token_no (d ∷ s) r k f t =
         let same = first_same 47 d (s ++ r) (42 ∷ b) f in
@@ -319,10 +319,10 @@ some_bytes : (s : Bytes) → (s ≡ [] → ⊥) → 0 < length s
 some_bytes [] h = absurd (h refl)
 some_bytes (c ∷ s) h = omega arith
 
-pub piece_some : {b : Bytes} {k : Option Sort} {n : ℕ} → BeginsWith b k n → 0 < n
+pub piece_some : {b : Bytes} {k : Option TokenSort} {n : ℕ} → BeginsWith b k n → 0 < n
 piece_some (with_gap s b g) = gap_some g
 piece_some (with_token s b t) = some_bytes s (not_empty t.spelling)
 
-pub piece_within : {b : Bytes} {k : Option Sort} {n : ℕ} → BeginsWith b k n → n ≤ length b
+pub piece_within : {b : Bytes} {k : Option TokenSort} {n : ℕ} → BeginsWith b k n → n ≤ length b
 piece_within (with_gap s b g) = let both = length-append s b in omega arith
 piece_within (with_token s b t) = let both = length-append s b in omega arith

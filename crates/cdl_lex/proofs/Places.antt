@@ -1,13 +1,14 @@
 -- Where the tokens of a splitting lie, and what their texts are.
 use Rattle.std.proofs.Common.{◌≡◌, Bool, true, false, if◌then◌else◌, ℕ, ◌+◌, ◌-◌, ◌≤◌, ◌<◌, List, [], ◌∷◌, ◌++◌, length, take, drop, arith, refl, sym, ap, ◌∙◌, subst, length-append, length-drop}
+use Rattle.cdl_source.specs.declared.limits.TheConstants.{LONGEST_MODEL}
 use Rattle.std.proofs.lemmas.List.{drop-drop, length-take}
 use Rattle.std.proofs.lemmas.Slice.Eq.{bytes_eq-Decides}
 use Rattle.std.specs.Str.{bytes_eq, IsUtf8}
 use Rattle.std.proofs.lemmas.List.Elements.{All-nil, All-cons}
 use Rattle.std.proofs.Math.Seq.{take-append_seam, drop-append_seam}
-use Rattle.cdl_source.specs.declared.place.Sort.{Sort}
+use Rattle.cdl_source.specs.declared.place.TokenSort.{TokenSort}
 use Rattle.cdl_source.specs.declared.place.Token.{Token}
-use Rattle.cdl_lex.specs.TokenList.{text_of, longest_text, LiesWithin, LieWithin, RiseFrom, Rise}
+use Rattle.cdl_lex.specs.TokenList.{text_of, LiesWithin, LieWithin, RiseFrom, Rise}
 use Rattle.cdl_lex.specs.Spellings.{Bytes, Spelling}
 use Rattle.cdl_lex.specs.Splits.{token, Reaches, here, gap_then, token_then, mark, Splits}
 use Rattle.cdl_lex.specs.Texts.{IsSpelled, AreSpelled, FitLimits, AreTokens}
@@ -28,7 +29,7 @@ rise {at} {ts = ts} (gap_then {s = s} g h) = weaker at (at + length s) ts (omega
 rise {at} (token_then {s = s} t h) = let more : 0 < length s = some s (not_empty t.spelling) in (omega arith, omega arith, rise h)
 
 -- the bytes from `at` on are b
-text_is : (bytes : Bytes) (at : ℕ) (s b : Bytes) (k : Sort) → drop at bytes ≡ s ++ b → text_of bytes (token k at (length s)) ≡ s
+text_is : (bytes : Bytes) (at : ℕ) (s b : Bytes) (k : TokenSort) → drop at bytes ≡ s ++ b → text_of bytes (token k at (length s)) ≡ s
 text_is bytes at s b k e =
     let size : (at + length s) - at ≡ length s = omega arith in
     ap (λ n. take n (drop at bytes)) size ∙ ap (take (length s)) e ∙ take-append_seam s b
@@ -81,7 +82,7 @@ few (token_then {s = s} {b = b} t h) =
 pub tokens_few : (bytes : Bytes) (ts : List Token) → Splits bytes ts → length ts ≤ length bytes
 tokens_few bytes ts h = let less = few h in let left = length-drop (mark bytes) bytes in omega arith
 
-pub are_tokens : (bytes : Bytes) (ts : List Token) → BreaksNone bytes → Splits bytes ts → length bytes ≤ longest_text → IsUtf8 bytes → FitLimits bytes ts → AreTokens bytes ts
+pub are_tokens : (bytes : Bytes) (ts : List Token) → BreaksNone bytes → Splits bytes ts → length bytes ≤ LONGEST_MODEL → IsUtf8 bytes → FitLimits bytes ts → AreTokens bytes ts
 are_tokens bytes ts none splits short utf8 fit = record {
   unbroken = none;
   splits = splits;

@@ -6,8 +6,8 @@ use Rattle.std.proofs.lemmas.Slice.Eq.{bytes_eq-Decides}
 use Rattle.std.specs.List.{list_all, list_any}
 use Rattle.std.specs.Str.{bytes_eq}
 use Rattle.cdl_source.specs.Identifiers.{is_digit, is_initial, is_word_byte, keywords, is_keyword}
-use Rattle.cdl_source.specs.declared.place.Sort.{Sort}
-use Rattle.cdl_source.specs.declared.place.Sort.TheVariants.{Identifier, Integer, Real, Str, Keyword, Symbol}
+use Rattle.cdl_source.specs.declared.place.TokenSort.{TokenSort}
+use Rattle.cdl_source.specs.declared.place.TokenSort.TheVariants.{Identifier, Integer, Real, Str, Keyword, Symbol}
 use Rattle.cdl_decimal.specs.Spells.{IsDigit, AllDigits, IsFraction, no_point, point, IsExponent, no_exponent, exponent}
 use Rattle.cdl_lex.specs.Spellings.{Bytes, is_blank, symbols, is_symbol, is_pair, IsInside, Spelling, identifier, keyword, integer, real, string, symbol, pair}
 use Rattle.cdl_lex.specs.Steps.{word_sort}
@@ -140,7 +140,7 @@ pub record IsNumber (s : Bytes) : Type 0 where
 abbrev pub IsOneOrPair : ℕ → Bytes → Type 0
 IsOneOrPair c cs = (cs ≡ []) ⊎ ((d : ℕ) × (cs ≡ d ∷ []) × (is_pair c d ≡ true))
 
-pub data View : Bytes → Sort → Type 0 where
+pub data View : Bytes → TokenSort → Type 0 where
   a_word : (c : ℕ) (cs : Bytes) → is_initial c ≡ true → list_all is_word_byte cs ≡ true → View (c ∷ cs) (word_sort (c ∷ cs))
   a_number : (c : ℕ) (cs : Bytes) → is_digit c ≡ true → IsNumber (c ∷ cs) → View (c ∷ cs) (if list_all is_digit (c ∷ cs) then Integer else Real)
   a_string : (b : Bytes) → IsInside b → View (34 ∷ (b ++ 34 ∷ [])) Str
@@ -207,7 +207,7 @@ real_view (d ∷ ds) f x {fs} {xs} {m} some all p q more =
       is = refl;
     }))
 
-pub view : {s : Bytes} {k : Sort} → Spelling s k → View s k
+pub view : {s : Bytes} {k : TokenSort} → Spelling s k → View s k
 view (identifier c cs i all plain) = subst (View (c ∷ cs)) (ap (λ q. if q then Keyword else Identifier) plain) (a_word c cs i all)
 view (keyword s k) = keyword_view s k (keyword_is_name s k)
 view (integer ds some all) = integer_view ds some all
@@ -260,7 +260,7 @@ head_sign_of c i d q =
 pub head_sign : (c : ℕ) → IsPlain c → head c ≡ Sign
 head_sign c p = head_sign_of c p.no_initial p.no_digit p.no_quote
 
-view_fits : {s : Bytes} {k : Sort} → View s k → (c : ℕ) (cs : Bytes) → s ≡ c ∷ cs → Fits (head c) c cs
+view_fits : {s : Bytes} {k : TokenSort} → View s k → (c : ℕ) (cs : Bytes) → s ≡ c ∷ cs → Fits (head c) c cs
 view_fits (a_word d ds i all) c cs e =
     let same : d ≡ c = cc in let rest : ds ≡ cs = cc in
     subst (λ z. Fits (head z) z cs) same (subst (λ z. Fits z d cs) (sym (head_letter d i)) (subst (λ z. list_all is_word_byte z ≡ true) rest all))
@@ -275,35 +275,35 @@ view_fits (a_sign d ds f one) c cs e =
     subst (λ z. Fits (head z) z cs) same (subst (λ z. Fits z d cs) (sym (head_sign d (plain_is d (symbol_is_plain d f)))) (f, subst (IsOneOrPair d) rest one))
 
 -- what a spelling that begins with this byte goes on with
-pub fits : {s : Bytes} {k : Sort} → Spelling s k → (c : ℕ) (cs : Bytes) → s ≡ c ∷ cs → Fits (head c) c cs
+pub fits : {s : Bytes} {k : TokenSort} → Spelling s k → (c : ℕ) (cs : Bytes) → s ≡ c ∷ cs → Fits (head c) c cs
 fits x = view_fits (view x)
 
-view_some : {s : Bytes} {k : Sort} → View s k → s ≡ [] → ⊥
+view_some : {s : Bytes} {k : TokenSort} → View s k → s ≡ [] → ⊥
 view_some (a_word d ds i all) e = cc
 view_some (a_number d ds h n) e = cc
 view_some (a_string b h) e = cc
 view_some (a_sign d ds f one) e = cc
 
-pub not_empty : {s : Bytes} {k : Sort} → Spelling s k → s ≡ [] → ⊥
+pub not_empty : {s : Bytes} {k : TokenSort} → Spelling s k → s ≡ [] → ⊥
 not_empty x = view_some (view x)
 
 -- ---- one sort
 
-abbrev sort_by : Head → Bytes → Sort
+abbrev sort_by : Head → Bytes → TokenSort
 sort_by Letter s = word_sort s
 sort_by Numeral s = if list_all is_digit s then Integer else Real
 sort_by Quote s = Str
 sort_by Sign s = Symbol
 
-abbrev sort_of : Bytes → Sort
+abbrev sort_of : Bytes → TokenSort
 sort_of [] = Symbol
 sort_of (c ∷ cs) = sort_by (head c) (c ∷ cs)
 
-view_sort : {s : Bytes} {k : Sort} → View s k → k ≡ sort_of s
+view_sort : {s : Bytes} {k : TokenSort} → View s k → k ≡ sort_of s
 view_sort (a_word d ds i all) = ap (λ z. sort_by z (d ∷ ds)) (sym (head_letter d i))
 view_sort (a_number d ds h n) = ap (λ z. sort_by z (d ∷ ds)) (sym (head_numeral d h))
 view_sort (a_string b h) = refl
 view_sort (a_sign d ds f one) = ap (λ z. sort_by z (d ∷ ds)) (sym (head_sign d (plain_is d (symbol_is_plain d f))))
 
-pub one_sort : {s t : Bytes} {k j : Sort} → Spelling s k → Spelling t j → s ≡ t → k ≡ j
+pub one_sort : {s t : Bytes} {k j : TokenSort} → Spelling s k → Spelling t j → s ≡ t → k ≡ j
 one_sort x y e = view_sort (view x) ∙ ap sort_of e ∙ sym (view_sort (view y))

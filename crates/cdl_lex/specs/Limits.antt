@@ -1,7 +1,8 @@
 -- The limits of literals, of nesting, and of the operators of an expression.
 use Rattle.std.specs.Prelude.{◌≡◌, ◌⊎◌, ◌<◌, ℕ, ◌+◌, ◌-◌, ◌==◌, Bool, false, not, ◌&&◌, if◌then◌else◌, List, [], ◌∷◌, reverse, length, Err}
-use Rattle.cdl_source.specs.declared.place.Sort.{Sort}
-use Rattle.cdl_source.specs.declared.place.Sort.TheVariants as sort
+use Rattle.cdl_source.specs.declared.limits.TheConstants.{DEEPEST_NESTING, LARGEST_INTEGER, LONGEST_IDENTIFIER, MOST_IFS, MOST_OPERATORS}
+use Rattle.cdl_source.specs.declared.place.TokenSort.{TokenSort}
+use Rattle.cdl_source.specs.declared.place.TokenSort.TheVariants as sort
 use Rattle.cdl_source.specs.declared.place.Token.{Token}
 use Rattle.cdl_decimal.specs.Spells.{number, Parses}
 use Rattle.cdl_decimal.specs.declared.numeral.DecimalError.TheVariants.{TooLong, OutOfRange}
@@ -13,21 +14,14 @@ use Rattle.cdl_lex.specs.Roles.{role_of, is_end, is_semicolon, is_if, is_operato
 
 -- ---- literals and identifiers
 
--- the greatest whole number that a text may have, and the most bytes of an identifier
-abbrev pub most_integer : ℕ
-most_integer = 2147483647
-
-abbrev pub longest_name : ℕ
-longest_name = 64
-
 -- The text of a Real has too many digits, or its value is out of range.
 abbrev pub IsRefused : Bytes → Type 0
 IsRefused text = Parses text (Err TooLong) ⊎ Parses text (Err OutOfRange)
 
 -- The text of a token of this sort is past the limits of its sort.
-abbrev pub IsPast : Sort → Bytes → Type 0
-IsPast sort.Identifier text = longest_name < length text
-IsPast sort.Integer text = most_integer < number text
+abbrev pub IsPast : TokenSort → Bytes → Type 0
+IsPast sort.Identifier text = LONGEST_IDENTIFIER < length text
+IsPast sort.Integer text = LARGEST_INTEGER < number text
 IsPast sort.Real text = IsRefused text
 IsPast sort.Str text = ⊥
 IsPast sort.Keyword text = ⊥
@@ -73,9 +67,6 @@ classes bytes (t ∷ earlier) =
 abbrev pub depth : Bytes → List Token → ℕ
 depth bytes earlier = brackets bytes earlier + classes bytes earlier
 
-abbrev pub deepest : ℕ
-deepest = 64
-
 -- ---- operators
 
 -- a count behind one token more, which may be a semicolon, or one that counts
@@ -96,12 +87,6 @@ abbrev pub operators : Bytes → List Token → ℕ
 operators bytes [] = 0
 operators bytes (t ∷ earlier) = with_token (is_semicolon (role_of bytes t)) (is_counted bytes t earlier) (operators bytes earlier)
 
-abbrev pub most_ifs : ℕ
-most_ifs = 64
-
-abbrev pub most_operators : ℕ
-most_operators = 1024
-
 -- ---- a token that breaks a limit, behind other tokens
 
 -- The token, behind these, takes the number from its limit to one above it.
@@ -109,7 +94,7 @@ abbrev pub Passes : ℕ → (List Token → ℕ) → List Token → Token → Ty
 Passes limit number before t = (number (reverse before) ≡ limit) × (number (t ∷ reverse before) ≡ limit + 1)
 
 abbrev pub IsTooDeep : Bytes → List Token → Token → Type 0
-IsTooDeep bytes = Passes deepest (depth bytes)
+IsTooDeep bytes = Passes DEEPEST_NESTING (depth bytes)
 
 abbrev pub IsTooMany : Bytes → List Token → Token → Type 0
-IsTooMany bytes before t = Passes most_ifs (ifs bytes) before t ⊎ Passes most_operators (operators bytes) before t
+IsTooMany bytes before t = Passes MOST_IFS (ifs bytes) before t ⊎ Passes MOST_OPERATORS (operators bytes) before t

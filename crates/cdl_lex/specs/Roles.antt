@@ -1,8 +1,8 @@
 -- The part that a token plays in the nesting and in the counts of operators.
 use Rattle.std.specs.Prelude.{Bool, true, false, if◌then◌else◌, List, [], ◌∷◌, codes}
 use Rattle.std.specs.Str.{bytes_eq}
-use Rattle.cdl_source.specs.declared.place.Sort.{Sort}
-use Rattle.cdl_source.specs.declared.place.Sort.TheVariants as sort
+use Rattle.cdl_source.specs.declared.place.TokenSort.{TokenSort}
+use Rattle.cdl_source.specs.declared.place.TokenSort.TheVariants as sort
 use Rattle.cdl_source.specs.declared.place.Token.{Token}
 use Rattle.cdl_lex.specs.declared.role.Role.{Role}
 use Rattle.cdl_lex.specs.declared.role.Role.TheVariants as r
@@ -27,7 +27,7 @@ unfoldable pub word_role : Bytes → Role
 word_role = lookup roles
 
 -- the role of a token of this sort and text
-abbrev pub role_by : Sort → Bytes → Role
+abbrev pub role_by : TokenSort → Bytes → Role
 role_by sort.Identifier text = r.Other
 role_by sort.Integer text = r.Other
 role_by sort.Real text = r.Other

@@ -1,16 +1,16 @@
 -- The rules of texts, and the first of them that a text breaks.
 use Rattle.std.specs.Prelude.{◌≡◌, ◌<◌, ℕ, List, ◌∷◌, ◌++◌, length, drop}
+use Rattle.cdl_source.specs.declared.limits.TheConstants.{LONGEST_MODEL}
 use Rattle.std.specs.Str.{IsValidUpTo}
 use Rattle.cdl_source.specs.declared.place.Token.{Token}
 use Rattle.cdl_lex.specs.Spellings.{Bytes}
-use Rattle.cdl_lex.specs.TokenList.{longest_text}
 use Rattle.cdl_lex.specs.Splits.{Begins, Splits, NothingBegins}
 use Rattle.cdl_lex.specs.Limits.{IsPastLimits, IsTooDeep, IsTooMany}
 
 -- C1: the text is too long, from this byte on.
 pub record IsTooLong (bytes : Bytes) (at : ℕ) : Type 0 where
-  pub long : longest_text < length bytes
-  pub place : at ≡ longest_text
+  pub long : LONGEST_MODEL < length bytes
+  pub place : at ≡ LONGEST_MODEL
 
 -- C2: the text is not UTF-8, and its longest front that is UTF-8 ends at this byte.
 abbrev pub IsNotUtf8 : Bytes → ℕ → Type 0

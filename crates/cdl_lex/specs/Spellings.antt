@@ -2,8 +2,8 @@
 use Rattle.std.specs.Prelude.{◌≡◌, ℕ, ◌<◌, Bool, true, false, ◌&&◌, ◌||◌, ◌==◌, List, [], ◌∷◌, ◌++◌, length, codes}
 use Rattle.std.specs.List.{list_all, list_any}
 use Rattle.cdl_source.specs.Identifiers.{is_initial, is_word_byte, is_keyword}
-use Rattle.cdl_source.specs.declared.place.Sort.{Sort}
-use Rattle.cdl_source.specs.declared.place.Sort.TheVariants.{Identifier, Integer, Real, Str, Keyword, Symbol}
+use Rattle.cdl_source.specs.declared.place.TokenSort.{TokenSort}
+use Rattle.cdl_source.specs.declared.place.TokenSort.TheVariants.{Identifier, Integer, Real, Str, Keyword, Symbol}
 use Rattle.cdl_decimal.specs.Spells.{AllDigits, IsFraction, IsExponent}
 
 abbrev pub Bytes : Type 0
@@ -35,7 +35,7 @@ pub data IsInside : Bytes → Type 0 where
   escape : (c : ℕ) {b : Bytes} → is_escape c ≡ true → IsInside b → IsInside (92 ∷ c ∷ b)
 
 -- the texts of tokens, and what they are
-pub data Spelling : Bytes → Sort → Type 0 where
+pub data Spelling : Bytes → TokenSort → Type 0 where
   identifier : (c : ℕ) (cs : Bytes) → is_initial c ≡ true → list_all is_word_byte cs ≡ true → is_keyword (c ∷ cs) ≡ false → Spelling (c ∷ cs) Identifier
   keyword : (s : Bytes) → is_keyword s ≡ true → Spelling s Keyword
   integer : (ds : Bytes) → 0 < length ds → AllDigits ds → Spelling ds Integer

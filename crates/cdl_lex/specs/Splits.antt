@@ -2,20 +2,20 @@
 use Rattle.std.specs.Prelude.{◌≡◌, ℕ, ◌+◌, Bool, true, false, ◌||◌, ◌==◌, if◌then◌else◌, List, [], ◌∷◌, ◌++◌, length, take, drop}
 use Rattle.std.specs.List.{list_all}
 use Rattle.std.specs.Str.{bytes_eq}
-use Rattle.cdl_source.specs.declared.place.Sort.{Sort}
+use Rattle.cdl_source.specs.declared.place.TokenSort.{TokenSort}
 use Rattle.cdl_source.specs.declared.place.Token.{Token}
 use Rattle.cdl_lex.specs.Spellings.{Bytes, is_blank, Spelling}
 
 -- s stands before b, and no longer slice from the first byte of s is a spelling.
 abbrev pub IsLongest : Bytes → Bytes → Type 0
-IsLongest s b = (x : ℕ) (m r : Bytes) (k : Sort) → b ≡ x ∷ (m ++ r) → Spelling (s ++ x ∷ m) k → ⊥
+IsLongest s b = (x : ℕ) (m r : Bytes) (k : TokenSort) → b ≡ x ∷ (m ++ r) → Spelling (s ++ x ∷ m) k → ⊥
 
 -- The symbol / does not stand directly before / or *.
 abbrev pub StandsApart : Bytes → Bytes → Type 0
 StandsApart s b = s ≡ 47 ∷ [] → (c : ℕ) (r : Bytes) → b ≡ c ∷ r → (c == 47 || c == 42) ≡ false
 
 -- s, which stands before b, is a token of this sort.
-pub record IsToken (s : Bytes) (k : Sort) (b : Bytes) : Type 0 where
+pub record IsToken (s : Bytes) (k : TokenSort) (b : Bytes) : Type 0 where
   pub spelling : Spelling s k
   pub longest : IsLongest s b
   pub apart : StandsApart s b
@@ -39,14 +39,14 @@ pub data IsGap : Bytes → Bytes → Type 0 where
   block : (s b : Bytes) → HoldsNoClose s → IsGap (47 ∷ 42 ∷ (s ++ 42 ∷ 47 ∷ [])) b
 
 -- the token of so many bytes from the byte `at` on
-abbrev pub token : Sort → ℕ → ℕ → Token
+abbrev pub token : TokenSort → ℕ → ℕ → Token
 token k at size = record { sort = k; span = record { start = at; end = at + size } }
 
 -- The bytes, the first of which is the byte `at` of a text, are gaps and these tokens in turn, and then a rest.
 pub data Reaches : ℕ → Bytes → List Token → Bytes → Type 0 where
   here : (at : ℕ) (b : Bytes) → Reaches at b [] b
   gap_then : {at : ℕ} {s b r : Bytes} {ts : List Token} → IsGap s b → Reaches (at + length s) b ts r → Reaches at (s ++ b) ts r
-  token_then : {at : ℕ} {s b r : Bytes} {ts : List Token} {k : Sort} → IsToken s k b → Reaches (at + length s) b ts r
+  token_then : {at : ℕ} {s b r : Bytes} {ts : List Token} {k : TokenSort} → IsToken s k b → Reaches (at + length s) b ts r
       → Reaches at (s ++ b) (token k at (length s) ∷ ts) r
 
 -- how many bytes a byte order mark at the very start takes
@@ -65,4 +65,4 @@ Splits bytes ts = Begins bytes ts []
 pub record NothingBegins (r : Bytes) : Type 0 where
   pub more : r ≡ [] → ⊥
   pub no_gap : (s b : Bytes) → r ≡ s ++ b → IsGap s b → ⊥
-  pub no_token : (s b : Bytes) (k : Sort) → r ≡ s ++ b → IsToken s k b → ⊥
+  pub no_token : (s b : Bytes) (k : TokenSort) → r ≡ s ++ b → IsToken s k b → ⊥

@@ -2,8 +2,8 @@
 use Rattle.std.specs.Prelude.{◌≡◌, ℕ, ◌+◌, Bool, true, false, ◌&&◌, ◌||◌, ◌==◌, if◌then◌else◌, List, [], ◌∷◌, ◌++◌, length, drop, Option, Some, None, ℤ, Result, Ok, Err}
 use Rattle.std.specs.List.{prefix_len}
 use Rattle.cdl_source.specs.Identifiers.{is_initial, is_digit, is_keyword}
-use Rattle.cdl_source.specs.declared.place.Sort.{Sort}
-use Rattle.cdl_source.specs.declared.place.Sort.TheVariants.{Identifier, Integer, Real, Keyword}
+use Rattle.cdl_source.specs.declared.place.TokenSort.{TokenSort}
+use Rattle.cdl_source.specs.declared.place.TokenSort.TheVariants.{Identifier, Integer, Real, Keyword}
 use Rattle.cdl_source.specs.declared.place.Token.{Token}
 use Rattle.cdl_decimal.specs.declared.numeral.DecimalError.{DecimalError}
 use Rattle.cdl_decimal.specs.declared.numeral.DecimalError.TheVariants.{NotDecimal, TooLong, OutOfRange}
@@ -15,7 +15,7 @@ use Rattle.cdl_lex.specs.Splits.{IsGap, IsToken, Splits, token}
 use Rattle.cdl_lex.specs.Rules.{IsNoToken}
 
 -- what a word is
-abbrev pub word_sort : Bytes → Sort
+abbrev pub word_sort : Bytes → TokenSort
 word_sort word = if is_keyword word then Keyword else Identifier
 
 -- the first byte is c
@@ -44,7 +44,7 @@ exponent_len (c ∷ cs) = if c == 69 || c == 101 then with_digits (sign_len cs) 
 unfoldable pub tail_len : Bytes → ℕ
 tail_len b = fraction_len b + exponent_len (drop (fraction_len b) b)
 
-abbrev pub number_sort : ℕ → Sort
+abbrev pub number_sort : ℕ → TokenSort
 number_sort tail = if tail == 0 then Integer else Real
 
 abbrev pub plus : ℕ → Option ℕ → Option ℕ
@@ -71,15 +71,15 @@ pub record IsSign (c : ℕ) : Type 0 where
   pub no_slash : (c == 47) ≡ false
 
 -- The bytes begin with a gap, or with a token of this sort, of so many bytes.
-pub data BeginsWith : Bytes → Option Sort → ℕ → Type 0 where
+pub data BeginsWith : Bytes → Option TokenSort → ℕ → Type 0 where
   with_gap : (s b : Bytes) → IsGap s b → BeginsWith (s ++ b) None (length s)
-  with_token : (s b : Bytes) {k : Sort} → IsToken s k b → BeginsWith (s ++ b) (Some k) (length s)
+  with_token : (s b : Bytes) {k : TokenSort} → IsToken s k b → BeginsWith (s ++ b) (Some k) (length s)
 
 abbrev pub IsPiece : Bytes → Piece → Type 0
 IsPiece b p = BeginsWith b p.sort p.size
 
 -- the tokens of a piece that begins at this byte
-abbrev pub listed : ℕ → Option Sort → ℕ → List Token
+abbrev pub listed : ℕ → Option TokenSort → ℕ → List Token
 listed at None size = []
 listed at (Some k) size = token k at size ∷ []
 

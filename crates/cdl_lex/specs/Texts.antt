@@ -1,9 +1,10 @@
 -- What holds of the tokens that `lex` finds.
 use Rattle.std.specs.Prelude.{◌≤◌, List, All, length}
+use Rattle.cdl_source.specs.declared.limits.TheConstants.{LONGEST_MODEL}
 use Rattle.std.specs.Str.{IsUtf8}
 use Rattle.cdl_source.specs.declared.place.Token.{Token}
 use Rattle.cdl_lex.specs.Spellings.{Bytes, Spelling}
-use Rattle.cdl_lex.specs.TokenList.{text_of, longest_text, LieWithin, Rise}
+use Rattle.cdl_lex.specs.TokenList.{text_of, LieWithin, Rise}
 use Rattle.cdl_lex.specs.Limits.{IsPastLimits}
 use Rattle.cdl_lex.specs.Splits.{Splits}
 use Rattle.cdl_lex.specs.Rules.{BreaksNone}
@@ -27,7 +28,7 @@ FitLimits bytes ts = All (FitsLimits bytes) ts
 pub record AreTokens (bytes : Bytes) (ts : List Token) : Type 0 where
   pub unbroken : BreaksNone bytes
   pub splits : Splits bytes ts
-  pub short : length bytes ≤ longest_text
+  pub short : length bytes ≤ LONGEST_MODEL
   pub utf8 : IsUtf8 bytes
   pub few : length ts ≤ length bytes
   pub within : LieWithin bytes ts

@@ -8,10 +8,6 @@ pub record TokenList : Type 0 where
   pub bytes : List ℕ
   pub items : List Token
 
--- the most bytes that a text may have
-abbrev pub longest_text : ℕ
-longest_text = 524288
-
 -- a token's text: from the first byte of its span up to the one behind its last
 abbrev pub text_of : List ℕ → Token → List ℕ
 text_of bytes t = slice_range bytes t.span.start t.span.end

@@ -1,5 +1,6 @@
 // The limits of `if` and of operators.
 ghost use Rattle.std.specs.Prelude.{◌≡◌, ◌≤◌, ◌&&◌, not};
+ghost use Rattle.cdl_source.specs.declared.limits.TheConstants.{MOST_IFS, MOST_OPERATORS};
 ghost use Rattle.cdl_lex.specs.Found.{IsFirst};
 ghost use Rattle.cdl_lex.specs.Limits as spec;
 ghost use Rattle.cdl_lex.specs.Roles.{is_semicolon, is_if, is_operator, is_lead};
@@ -7,12 +8,7 @@ ghost use Rattle.cdl_lex.specs.Rules.{HasTooMany};
 ghost use Rattle.cdl_lex.specs.TokenList.{LieWithin, Rise};
 
 use crate::role::{Role, role_of};
-use cdl_source::Token;
-
-// The most `if` and the most counted operators since the last `;`.
-const MOST_IFS: u32 = 64;
-
-const MOST_OPERATORS: u32 = 1024;
+use cdl_source::{MOST_IFS, MOST_OPERATORS, Token};
 
 /// The `if` and the counted operators since the last `;`, and whether the last token is one behind which no operator counts.
 #[derive(Clone, Copy)]
@@ -25,8 +21,8 @@ pub(crate) struct Counts {
 impl Counts {
     // Behind one token more.
     fn behind(self, role: Role) -> Counts
-        requires ifs { self.ifs ≤ 64 }
-        requires operators { self.operators ≤ 1024 }
+        requires ifs { self.ifs ≤ MOST_IFS }
+        requires operators { self.operators ≤ MOST_OPERATORS }
         ensures ifs { result.ifs ≡ spec.with_token (is_semicolon role) (is_if role) self.ifs }
         ensures operators { result.operators ≡ spec.with_token (is_semicolon role) (is_operator role && not self.follows_lead) self.operators }
         ensures follows_lead { result.follows_lead ≡ is_lead role }

@@ -1,5 +1,6 @@
 // The limit of nesting.
 ghost use Rattle.std.specs.Prelude.{◌≡◌, ◌≤◌, ◌+◌, ◌==◌, if◌then◌else◌};
+ghost use Rattle.cdl_source.specs.declared.limits.TheConstants.{DEEPEST_NESTING};
 ghost use Rattle.cdl_lex.specs.Found.{IsFirst};
 ghost use Rattle.cdl_lex.specs.Limits as spec;
 ghost use Rattle.cdl_lex.specs.Roles.{is_end};
@@ -7,10 +8,7 @@ ghost use Rattle.cdl_lex.specs.Rules.{HasTooDeep};
 ghost use Rattle.cdl_lex.specs.TokenList.{LieWithin, Rise};
 
 use crate::role::{Role, role_of};
-use cdl_source::Token;
-
-// How deep brackets, blocks, packages and loops may stand in one another.
-const DEEPEST: u32 = 64;
+use cdl_source::{DEEPEST_NESTING, Token};
 
 /// The open brackets, the open blocks, packages and loops, and whether the last token is `end`.
 #[derive(Clone, Copy)]
@@ -22,7 +20,7 @@ pub(crate) struct Depth {
 
 impl Depth {
     fn brackets_behind(self, role: Role) -> u32
-        requires { self.brackets ≤ 64 }
+        requires { self.brackets ≤ DEEPEST_NESTING }
         ensures { result ≡ spec.with_bracket role self.brackets }
     {
         match role {
@@ -33,7 +31,7 @@ impl Depth {
     }
 
     fn classes_behind(self, role: Role) -> u32
-        requires { self.classes ≤ 64 }
+        requires { self.classes ≤ DEEPEST_NESTING }
         ensures { result ≡ spec.with_class role self.follows_end self.classes }
     {
         match role {
@@ -46,7 +44,7 @@ impl Depth {
 
     // Behind one token more.
     fn behind(self, role: Role) -> Depth
-        requires { self.brackets + self.classes ≤ 64 }
+        requires { self.brackets + self.classes ≤ DEEPEST_NESTING }
         ensures brackets { result.brackets ≡ spec.with_bracket role self.brackets }
         ensures classes { result.classes ≡ (if self.brackets == 0 then spec.with_class role self.follows_end self.classes else self.classes) }
         ensures follows_end { result.follows_end ≡ is_end role }
@@ -76,7 +74,7 @@ pub(crate) fn too_deep(bytes: &[u8], tokens: &[Token]) -> Option<u32>
     };
     for token in tokens {
         depth = depth.behind(role_of(bytes, *token));
-        if depth.brackets + depth.classes > DEEPEST {
+        if depth.brackets + depth.classes > DEEPEST_NESTING {
             return Some(token.span.start);
         }
     }

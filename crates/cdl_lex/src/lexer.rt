@@ -13,11 +13,8 @@ use crate::depth::too_deep;
 use crate::literals::past_limits;
 use crate::split::{Splitting, split};
 use crate::tokens::Tokens;
-use cdl_source::{OutOfMemory, Place, Text};
+use cdl_source::{LONGEST_MODEL, OutOfMemory, Place, Text};
 use std::alloc::Global;
-
-// The most bytes of a text.
-const LONGEST_TEXT: usize = 524_288;
 
 /// Why a text has no tokens.
 #[derive(Clone, Copy, Debug, PartialEq, Eq)]
@@ -42,8 +39,8 @@ impl From<OutOfMemory> for LexFault {
 fn too_long(bytes: &[u8]) -> Option<u32>
     ensures { IsFirst (IsTooLong bytes.now) result }
 {
-    if bytes.len() > LONGEST_TEXT {
-        Some(LONGEST_TEXT as u32)
+    if bytes.len() > LONGEST_MODEL {
+        Some(LONGEST_MODEL as u32)
     } else {
         None
     }

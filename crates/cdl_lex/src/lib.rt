@@ -17,6 +17,6 @@ mod sizes;
 mod split;
 mod tokens;
 
-pub use law::one_splitting;
+pub use law::{one_splitting, unbroken_tokens};
 pub use lexer::{LexFault, lex};
 pub use tokens::Tokens;

@@ -1,24 +1,23 @@
 // The limits of literals and identifiers.
 ghost use Rattle.std.specs.Prelude.{◌≡◌, ◌↔◌, ◌<◌, IsTrue, Err};
+ghost use Rattle.cdl_source.specs.declared.limits.TheConstants.{LARGEST_INTEGER};
 ghost use Rattle.cdl_decimal.specs.Spells.{number};
 ghost use Rattle.cdl_lex.specs.Found.{IsFirst};
-ghost use Rattle.cdl_lex.specs.Limits.{IsPast, IsRefused, most_integer};
+ghost use Rattle.cdl_lex.specs.Limits.{IsPast, IsRefused};
 ghost use Rattle.cdl_lex.specs.Steps.{refuses};
 ghost use Rattle.cdl_lex.specs.Rules.{HasPastLimits};
 ghost use Rattle.cdl_lex.specs.TokenList.{LieWithin, Rise};
 
 use crate::role::text_of;
 use cdl_decimal::{DecimalError, parse};
-use cdl_source::{Sort, Token};
+use cdl_source::{LARGEST_INTEGER, LONGEST_IDENTIFIER, Token, TokenSort};
 
-// The greatest whole number that a text may have, and the most bytes of an identifier.
-const MOST_INTEGER: u64 = 2_147_483_647;
-
-const LONGEST_NAME: usize = 64;
+// The greatest whole number that a text may have.
+const MOST_INTEGER: u64 = LARGEST_INTEGER as u64;
 
 // The digits write too great a number.
 fn is_great(digits: &[u8]) -> bool
-    ensures { IsTrue result ↔ most_integer < number digits.now }
+    ensures { IsTrue result ↔ LARGEST_INTEGER < number digits.now }
 {
     let mut number = 0u64;
     for digit in digits {
@@ -49,14 +48,14 @@ fn is_refused(text: &[u8]) -> bool
     }
 }
 
-fn is_past(sort: Sort, text: &[u8]) -> bool
+fn is_past(sort: TokenSort, text: &[u8]) -> bool
     ensures { IsTrue result ↔ IsPast sort text.now }
 {
     match sort {
-        Sort::Identifier => text.len() > LONGEST_NAME,
-        Sort::Integer => is_great(text),
-        Sort::Real => is_refused(text),
-        Sort::Str | Sort::Keyword | Sort::Symbol => false,
+        TokenSort::Identifier => text.len() > LONGEST_IDENTIFIER,
+        TokenSort::Integer => is_great(text),
+        TokenSort::Real => is_refused(text),
+        TokenSort::Str | TokenSort::Keyword | TokenSort::Symbol => false,
     }
 }
 

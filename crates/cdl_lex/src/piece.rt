@@ -8,12 +8,12 @@ ghost use Rattle.cdl_lex.specs.Steps.{IsPiece};
 
 use crate::byte_set::ByteSet;
 use crate::sizes::{block_size, inside_size, tail_size};
-use cdl_source::{Sort, is_keyword};
+use cdl_source::{TokenSort, is_keyword};
 
 /// A gap of so many bytes, or a token.
 #[derive(Clone, Copy)]
 pub(crate) struct Piece {
-    pub(crate) sort: Option<Sort>,
+    pub(crate) sort: Option<TokenSort>,
     pub(crate) size: usize,
 }
 
@@ -23,7 +23,7 @@ fn gap(size: usize) -> Piece
     Piece { sort: None, size }
 }
 
-fn token(sort: Sort, size: usize) -> Piece
+fn token(sort: TokenSort, size: usize) -> Piece
     ensures { result ≡ record { sort = Some sort; size = size } }
 {
     Piece {
@@ -32,13 +32,13 @@ fn token(sort: Sort, size: usize) -> Piece
     }
 }
 
-fn word_sort(word: &[u8]) -> Sort
+fn word_sort(word: &[u8]) -> TokenSort
     ensures { result ≡ steps.word_sort word.now }
 {
     if is_keyword(word) {
-        Sort::Keyword
+        TokenSort::Keyword
     } else {
-        Sort::Identifier
+        TokenSort::Identifier
     }
 }
 
@@ -60,7 +60,11 @@ fn number(rest: &[u8]) -> Piece
 {
     let whole = ByteSet::Digit.prefix(rest);
     let tail = tail_size(&rest[whole..]);
-    let sort = if tail == 0 { Sort::Integer } else { Sort::Real };
+    let sort = if tail == 0 {
+        TokenSort::Integer
+    } else {
+        TokenSort::Real
+    };
     token(sort, whole + tail)
 }
 
@@ -72,7 +76,7 @@ fn string(rest: &[u8]) -> Option<Piece>
     ensures none { IfNone result (NothingBegins rest.now) }
 {
     match inside_size(&rest[1..]) {
-        Some(size) => Some(token(Sort::Str, 1 + size)),
+        Some(size) => Some(token(TokenSort::Str, 1 + size)),
         None => None,
     }
 }
@@ -92,7 +96,7 @@ fn slash(rest: &[u8]) -> Option<Piece>
             None => None,
         }
     } else {
-        Some(token(Sort::Symbol, 1))
+        Some(token(TokenSort::Symbol, 1))
     }
 }
 
@@ -124,9 +128,9 @@ fn symbol(rest: &[u8]) -> Option<Piece>
     if !is_symbol(rest[0]) {
         None
     } else if rest.len() > 1 && is_pair(rest[0], rest[1]) {
-        Some(token(Sort::Symbol, 2))
+        Some(token(TokenSort::Symbol, 2))
     } else {
-        Some(token(Sort::Symbol, 1))
+        Some(token(TokenSort::Symbol, 1))
     }
 }
 

@@ -4,7 +4,7 @@ ghost use Rattle.cdl_lex.specs.Roles as spec;
 ghost use Rattle.cdl_lex.specs.TokenList as list;
 ghost use Rattle.cdl_lex.specs.TokenList.{LiesWithin};
 
-use cdl_source::{Sort, Token};
+use cdl_source::{Token, TokenSort};
 
 /// What the limits tell apart.
 #[derive(Clone, Copy)]
@@ -70,12 +70,13 @@ fn word_role(text: &[u8]) -> Role
     lookup(&ROLES, text)
 }
 
-fn role_by(sort: Sort, text: &[u8]) -> Role
+fn role_by(sort: TokenSort, text: &[u8]) -> Role
     ensures { result ≡ spec.role_by sort text.now }
 {
     match sort {
-        Sort::Keyword | Sort::Symbol => word_role(text),
-        Sort::Identifier | Sort::Integer | Sort::Real | Sort::Str => Role::Other,
+        TokenSort::Keyword | TokenSort::Symbol => word_role(text),
+        TokenSort::Identifier | TokenSort::Integer | TokenSort::Real | TokenSort::Str =>
+            Role::Other,
     }
 }
 

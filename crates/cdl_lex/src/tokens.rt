@@ -1,7 +1,8 @@
 // A text with its tokens.
 ghost use Rattle.std.specs.Prelude.{◌≡◌, ◌≤◌, ◌<◌, Some, length, slice_get};
+ghost use Rattle.cdl_source.specs.declared.limits.TheConstants.{LONGEST_MODEL};
 ghost use Rattle.std.specs.Str.{IsUtf8};
-ghost use Rattle.cdl_lex.specs.TokenList.{LiesWithin, longest_text};
+ghost use Rattle.cdl_lex.specs.TokenList.{LiesWithin};
 ghost use Rattle.cdl_lex.specs.Texts.{IsSpelled, FitsLimits, AreTokens};
 
 use cdl_source::{List, Text, Token};
@@ -53,7 +54,7 @@ impl Tokens {
     /// All bytes of the text, lent: at most 524,288, and UTF-8.
     pub fn bytes(&self) -> &[u8]
         ensures bytes { result.now ≡ self.now.bytes }
-        ensures limit { length result.now ≤ longest_text }
+        ensures limit { length result.now ≤ LONGEST_MODEL }
         ensures utf8 { IsUtf8 result.now }
     {
         self.bytes.bytes()

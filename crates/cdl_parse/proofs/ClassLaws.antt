@@ -1,19 +1,19 @@
 -- The laws of classes. What a class has behind its `end`s is told by the first wrong identifier.
 use Rattle.std.proofs.Common.{◌≡◌, ℕ, zero, suc, ◌<◌, Bool, true, false, List, [], ◌∷◌, ◌++◌, length, Option, None, Err, refl, sym, ap, ◌∙◌, subst, arith, if◌then◌else◌, append_assoc, append-nil, length-append}
-use Rattle.cdl_tree.specs.declared.kind.Kind.{Kind}
-use Rattle.cdl_tree.specs.declared.kind.Kind.TheVariants as k
+use Rattle.cdl_tree.specs.declared.terminal.Terminal.{Terminal}
+use Rattle.cdl_tree.specs.declared.terminal.Terminal.TheVariants as the
 use Rattle.cdl_tree.specs.declared.name.Ident.{Ident}
 use Rattle.cdl_tree.specs.declared.class.Item.{Item}
-use Rattle.cdl_tree.specs.declared.class.Connect.{Connect}
+use Rattle.cdl_tree.specs.declared.class.Statement.{Statement}
 use Rattle.cdl_tree.specs.declared.class.ClassTree.{ClassTree}
 use Rattle.cdl_tree.specs.declared.class.Closing.{Closing}
-use Rattle.cdl_tree.specs.Words.{Terminal, Word, same_kind}
+use Rattle.cdl_tree.specs.Words.{Lexeme, Word, same_terminal}
 use Rattle.cdl_tree.specs.Trees.{the_ident, the_block, the_package, the_enumeration, the_closing}
 use Rattle.cdl_tree.specs.Grammar.{Tail, no_text, ConstantOf, is_section, BlockParts, no_block_part, EquationPart, no_equation, Literals, ClassOf, a_block, a_package, an_enumeration, PackageParts as PackageWord, no_package_part, package_section, package_note, package_constant, package_class}
 use Rattle.cdl_parse.specs.declared.closed.ClosedClass.{ClosedClass}
 use Rattle.cdl_parse.specs.declared.closed.PackageParts.{PackageParts}
-use Rattle.cdl_reading.specs.Reading.{Parser, and_then, pure, kind}
-use Rattle.cdl_parse.specs.Declarations.{note_clause as read_note}
+use Rattle.cdl_reading.specs.Reading.{Parser, and_then, pure, terminal}
+use Rattle.cdl_clauses.specs.Declarations.{note_clause as read_note}
 use Rattle.cdl_parse.specs.Classes as spec
 use Rattle.cdl_parse.specs.Classes.{wrong_end, or_then, closed as closed_class, with_class, with_constants}
 use Rattle.cdl_reading.proofs.Steps.{Then, both, Is, is, Made, is_made}
@@ -22,9 +22,9 @@ use Rattle.cdl_reading.proofs.Repeats.{Repeats, stop, snoc, fold, Loop, repeat_l
 use Rattle.cdl_expressions.proofs.Sets.{after_tail, after_condition}
 use Rattle.cdl_expressions.proofs.ExprLaws.{IdentOf, an_ident, ident_law}
 use Rattle.cdl_expressions.proofs.Texts.{AnyText, text_law}
-use Rattle.cdl_parse.proofs.Notes.{tail_law, NoteClause, note_clause, note_some}
-use Rattle.cdl_parse.proofs.Decls.{constant_law, constant_some}
-use Rattle.cdl_parse.proofs.Connects.{equation_law}
+use Rattle.cdl_clauses.proofs.Notes.{tail_law, NoteClause, note_clause, note_some}
+use Rattle.cdl_clauses.proofs.Decls.{constant_law, constant_some}
+use Rattle.cdl_clauses.proofs.Statements.{equation_law}
 use Rattle.cdl_parse.proofs.Ends.{first_wrong, or_none, wrong_in_turn}
 use Rattle.cdl_parse.proofs.Blocks.{apart, ends_as, sections, section_is, SectionR, NoteR, section_part, note_part, block_parts, after_block_parts, block_parts_law, literals_law}
 
@@ -40,37 +40,37 @@ class_some (a_block b n e m hb hn hu hv hw he hm) = omega arith
 class_some (a_package p n e m hp hn hu hv he hm) = omega arith
 class_some (an_enumeration t n q f a b ht hn hq hf ha hv hb hw) = omega arith
 
-abbrev pub classes : List Kind
-classes = k.Block ∷ k.Package ∷ k.Type ∷ []
+abbrev pub classes : List Terminal
+classes = the.Block ∷ the.Package ∷ the.Type ∷ []
 
-class_first : (x kd : Kind) → kd ≡ x → member classes x ≡ true → member classes kd ≡ true
+class_first : (x kd : Terminal) → kd ≡ x → member classes x ≡ true → member classes kd ≡ true
 class_first x kd e h = subst (λ z. member classes z ≡ true) (sym e) h
 
-class_leads : (w j : Word) (c : ClosedClass) → ClassIs w c → member classes (kind (w ++ j)) ≡ true
-unfolding same_kind
+class_leads : (w j : Word) (c : ClosedClass) → ClassIs w c → member classes (terminal (w ++ j)) ≡ true
+unfolding same_terminal
 class_leads w j c h = at h.1
   where
-    at : {v : Word} {t : ClassTree} {ends : List Closing} → ClassOf v t ends → member classes (kind (v ++ j)) ≡ true
-    at (a_block b n e m hb hn hu hv hw he hm) = class_first k.Block b.kind hb refl
-    at (a_package p n e m hp hn hu hv he hm) = class_first k.Package p.kind hp refl
-    at (an_enumeration t n q f a b ht hn hq hf ha hv hb hw) = class_first k.Type t.kind ht refl
+    at : {v : Word} {t : ClassTree} {ends : List Closing} → ClassOf v t ends → member classes (terminal (v ++ j)) ≡ true
+    at (a_block b n e m hb hn hu hv hw he hm) = class_first the.Block b.terminal hb refl
+    at (a_package p n e m hp hn hu hv he hm) = class_first the.Package p.terminal hp refl
+    at (an_enumeration t n q f a b ht hn hq hf ha hv hb hw) = class_first the.Type t.terminal ht refl
 
 -- ---- blocks
 
-abbrev block_value : Ident → List Item → List Connect → Ident → Word → ClosedClass
+abbrev block_value : Ident → List Item → List Statement → Ident → Word → ClosedClass
 block_value n xs cs m w = closed_class (the_block n xs cs w) (wrong_end n m)
 
 abbrev BlockR : Word → Word → ClosedClass → Type 0
 BlockR u =
-    Then (One k.Block) (λ _. Then (λ u. IdentOf) (λ n. Then AnyText (λ _. Then (λ u. BlockParts) (λ xs. Then (λ u. EquationPart) (λ cs. Then (One k.End) (λ _. Then (λ u. IdentOf) (λ m. Made (block_value n xs cs m)))))))) []
+    Then (One the.Block) (λ _. Then (λ u. IdentOf) (λ n. Then AnyText (λ _. Then (λ u. BlockParts) (λ xs. Then (λ u. EquationPart) (λ cs. Then (One the.End) (λ _. Then (λ u. IdentOf) (λ m. Made (block_value n xs cs m)))))))) []
 
-block_word : (b n e m : Terminal) (u v w : Word) → (((((b ∷ n ∷ []) ++ u) ++ v) ++ w) ++ e ∷ []) ++ m ∷ [] ≡ b ∷ n ∷ (u ++ (v ++ (w ++ e ∷ m ∷ [])))
+block_word : (b n e m : Lexeme) (u v w : Word) → (((((b ∷ n ∷ []) ++ u) ++ v) ++ w) ++ e ∷ []) ++ m ∷ [] ≡ b ∷ n ∷ (u ++ (v ++ (w ++ e ∷ m ∷ [])))
 block_word b n e m u v w = simp append_assoc
 
 block_in : (s w : Word) (c : ClosedClass) → BlockR s w c → ClassIs w c
 block_in s _ c (both (a_token b {a = a1} hb) (both (an_ident n hn) (both {x = u} hu (both {x = v} {a = xs} hv (both {x = w} {a = cs} hw (both (a_token e {a = a2} he) (both (an_ident m hm) (is_made h)))))))) =
     subst (ClassIs (b ∷ n ∷ (u ++ (v ++ (w ++ e ∷ m ∷ []))))) (sym (h ∙ ap (block_value (the_ident n) xs cs (the_ident m)) (block_word b n e m u v w)))
-    (the_closing (the_ident n) (the_ident m) ∷ [], a_block b n e m (only_is k.Block b.kind a1 hb) hn hu hv hw (only_is k.End e.kind a2 he) hm, sym (or_none (wrong_end (the_ident n) (the_ident m))))
+    (the_closing (the_ident n) (the_ident m) ∷ [], a_block b n e m (only_is the.Block b.terminal a1 hb) hn hu hv hw (only_is the.End e.terminal a2 he) hm, sym (or_none (wrong_end (the_ident n) (the_ident m))))
 
 -- ---- enumerations
 
@@ -79,16 +79,16 @@ type_value n xs w = closed_class (the_enumeration n xs w) None
 
 abbrev TypeR : Word → Word → ClosedClass → Type 0
 TypeR u =
-    Then (One k.Type) (λ _. Then (λ u. IdentOf) (λ n. Then (One k.Equals) (λ _. Then (One k.Enumeration) (λ _. Then (One k.Open) (λ _. Then (λ u. Literals) (λ xs. Then (One k.Close) (λ _. Then (λ u w (a : Unit {0}). Tail w) (λ _. Made (type_value n xs))))))))) []
+    Then (One the.Type) (λ _. Then (λ u. IdentOf) (λ n. Then (One the.Equals) (λ _. Then (One the.Enumeration) (λ _. Then (One the.Open) (λ _. Then (λ u. Literals) (λ xs. Then (One the.Close) (λ _. Then (λ u w (a : Unit {0}). Tail w) (λ _. Made (type_value n xs))))))))) []
 
-type_word : (t n q f a b : Terminal) (v w : Word) → (((t ∷ n ∷ q ∷ f ∷ a ∷ []) ++ v) ++ b ∷ []) ++ w ≡ t ∷ n ∷ q ∷ f ∷ a ∷ (v ++ b ∷ w)
+type_word : (t n q f a b : Lexeme) (v w : Word) → (((t ∷ n ∷ q ∷ f ∷ a ∷ []) ++ v) ++ b ∷ []) ++ w ≡ t ∷ n ∷ q ∷ f ∷ a ∷ (v ++ b ∷ w)
 type_word t n q f a b v w = simp append_assoc
 
 type_in : (s w : Word) (c : ClosedClass) → TypeR s w c → ClassIs w c
 type_in s _ c (both (a_token t {a = a1} ht) (both (an_ident n hn) (both (a_token q {a = a2} hq) (both (a_token f {a = a3} hf) (both (a_token a {a = a4} ha) (both {x = v} {a = xs} hv (both (a_token b {a = a5} hb) (both {x = w} hw (is_made h))))))))) =
     subst (λ z. ClassIs (t ∷ n ∷ q ∷ f ∷ a ∷ (v ++ b ∷ z)) c) (sym (append-nil w))
     (subst (ClassIs (t ∷ n ∷ q ∷ f ∷ a ∷ (v ++ b ∷ w))) (sym (h ∙ ap (type_value (the_ident n) xs) (type_word t n q f a b v w)))
-    ([], an_enumeration t n q f a b (only_is k.Type t.kind a1 ht) hn (only_is k.Equals q.kind a2 hq) (only_is k.Enumeration f.kind a3 hf) (only_is k.Open a.kind a4 ha) hv (only_is k.Close b.kind a5 hb) hw, refl))
+    ([], an_enumeration t n q f a b (only_is the.Type t.terminal a1 ht) hn (only_is the.Equals q.terminal a2 hq) (only_is the.Enumeration f.terminal a3 hf) (only_is the.Open a.terminal a4 ha) hv (only_is the.Close b.terminal a5 hb) hw, refl))
 
 -- ---- packages
 
@@ -96,10 +96,10 @@ abbrev pack : List ClassTree → List Item → Option ℕ → PackageParts
 pack ts xs wrong = record { classes = ts; constants = xs; wrong = wrong }
 
 data PackStep (p : PackageParts) (u : Word) : Word → PackageParts → Type 0 where
-  p_section : (t : Terminal) → is_section t.kind ≡ true → PackStep p u (t ∷ []) p
+  p_section : (t : Lexeme) → is_section t.terminal ≡ true → PackStep p u (t ∷ []) p
   p_note : {w : Word} → NoteClause w → PackStep p u w p
   p_constant : {w : Word} {ys : List Item} → ConstantOf w ys → PackStep p u w (with_constants p (p.constants ++ ys))
-  p_class : {w : Word} {c : ClosedClass} (s : Terminal) → ClassIs w c → s.kind ≡ k.Semicolon → PackStep p u (w ++ s ∷ []) (with_class p c)
+  p_class : {w : Word} {c : ClosedClass} (s : Lexeme) → ClassIs w c → s.terminal ≡ the.Semicolon → PackStep p u (w ++ s ∷ []) (with_class p c)
 
 pack_some : (a : PackageParts) (u w : Word) (b : PackageParts) → PackStep a u w b → 0 < length w
 pack_some a u _ _ (p_section t h) = omega arith
@@ -111,7 +111,7 @@ abbrev ConstantsR : PackageParts → Word → Word → PackageParts → Type 0
 ConstantsR p = Then (λ u. Behind ConstantOf p.constants) (λ xs. Is (with_constants p xs))
 
 abbrev InnerR : PackageParts → Word → Word → PackageParts → Type 0
-InnerR p = Then (Closed ClassIs k.Semicolon) (λ c. Is (with_class p c))
+InnerR p = Then (Closed ClassIs the.Semicolon) (λ c. Is (with_class p c))
 
 abbrev PackR : PackageParts → Word → Word → PackageParts → Type 0
 PackR p = Or (SectionR p) (Or (NoteR p) (Or (ConstantsR p) (InnerR p)))
@@ -164,9 +164,9 @@ package_value n p m w = closed_class (the_package n p.classes p.constants w) (or
 
 abbrev PackageR : Word → Word → ClosedClass → Type 0
 PackageR u =
-    Then (One k.Package) (λ _. Then (λ u. IdentOf) (λ n. Then AnyText (λ _. Then (λ u. PackIs) (λ p. Then (One k.End) (λ _. Then (λ u. IdentOf) (λ m. Made (package_value n p m))))))) []
+    Then (One the.Package) (λ _. Then (λ u. IdentOf) (λ n. Then AnyText (λ _. Then (λ u. PackIs) (λ p. Then (One the.End) (λ _. Then (λ u. IdentOf) (λ m. Made (package_value n p m))))))) []
 
-package_word : (p n e m : Terminal) (u v : Word) → ((((p ∷ n ∷ []) ++ u) ++ v) ++ e ∷ []) ++ m ∷ [] ≡ p ∷ n ∷ (u ++ (v ++ e ∷ m ∷ []))
+package_word : (p n e m : Lexeme) (u v : Word) → ((((p ∷ n ∷ []) ++ u) ++ v) ++ e ∷ []) ++ m ∷ [] ≡ p ∷ n ∷ (u ++ (v ++ e ∷ m ∷ []))
 package_word p n e m u v = simp append_assoc
 
 package_wrong : (ends : List Closing) (n m : Ident) → or_then (first_wrong ends) (wrong_end n m) ≡ first_wrong (ends ++ the_closing n m ∷ [])
@@ -176,7 +176,7 @@ package_in : (s w : Word) (c : ClosedClass) → PackageR s w c → ClassIs w c
 package_in s _ c (both (a_token b {a = a1} hb) (both (an_ident n hn) (both {x = u} hu (both {x = v} {a = p} hv (both (a_token e {a = a2} he) (both (an_ident m hm) (is_made h))))))) =
     subst (ClassIs (b ∷ n ∷ (u ++ (v ++ e ∷ m ∷ [])))) (sym (h ∙ ap (package_value (the_ident n) p (the_ident m)) (package_word b n e m u v))) (
       hv.0 ++ the_closing (the_ident n) (the_ident m) ∷ [],
-      a_package b n e m (only_is k.Package b.kind a1 hb) hn hu hv.1 (only_is k.End e.kind a2 he) hm,
+      a_package b n e m (only_is the.Package b.terminal a1 hb) hn hu hv.1 (only_is the.End e.terminal a2 he) hm,
       ap (λ z. or_then z (wrong_end (the_ident n) (the_ident m))) hv.2 ∙ package_wrong hv.0 (the_ident n) (the_ident m),
     )
 
@@ -191,44 +191,44 @@ class_in s w c (that (this h)) = package_in s w c h
 class_in s w c (that (that h)) = type_in s w c h
 
 class_out : (s : Word) {w : Word} {t : ClassTree} {ends : List Closing} → ClassOf w t ends → ClassR s w (closed_class t (first_wrong ends))
-class_out s (a_block b n e m {u} {v} {w} {xs} {cs} hb hn hu hv hw he hm) =
-    this (both (a_token b (is_only k.Block b.kind hb)) (both (an_ident n hn) (both {a = tt} hu (both hv (both hw (both (a_token e (is_only k.End e.kind he)) (both (an_ident m hm) (is_made
+class_out s (a_block b n e m {u} {v} {w} {xs} {ss = cs} hb hn hu hv hw he hm) =
+    this (both (a_token b (is_only the.Block b.terminal hb)) (both (an_ident n hn) (both {a = tt} hu (both hv (both hw (both (a_token e (is_only the.End e.terminal he)) (both (an_ident m hm) (is_made
     (ap (closed_class (the_block (the_ident n) xs cs (b ∷ n ∷ (u ++ (v ++ (w ++ e ∷ m ∷ [])))))) (or_none (wrong_end (the_ident n) (the_ident m)))
     ∙ ap (block_value (the_ident n) xs cs (the_ident m)) (sym (block_word b n e m u v w)))))))))))
 class_out s (a_package b n e m {u} {v} {ts} {xs} {ends} hb hn hu hv he hm) =
-    that (this (both (a_token b (is_only k.Package b.kind hb)) (both (an_ident n hn) (both {a = tt} hu (both {a = pack ts xs (first_wrong ends)} (ends, hv, refl) (both (a_token e (is_only k.End e.kind he)) (both (an_ident m hm) (is_made
+    that (this (both (a_token b (is_only the.Package b.terminal hb)) (both (an_ident n hn) (both {a = tt} hu (both {a = pack ts xs (first_wrong ends)} (ends, hv, refl) (both (a_token e (is_only the.End e.terminal he)) (both (an_ident m hm) (is_made
     (ap (closed_class (the_package (the_ident n) ts xs (b ∷ n ∷ (u ++ (v ++ e ∷ m ∷ []))))) (sym (package_wrong ends (the_ident n) (the_ident m)))
     ∙ ap (package_value (the_ident n) (pack ts xs (first_wrong ends)) (the_ident m)) (sym (package_word b n e m u v)))))))))))
 class_out s (an_enumeration t n q f a b {v = v} {w = w} {is = xs} ht hn hq hf ha hv hb hw) =
     that (that (subst (λ z. TypeR s (t ∷ n ∷ q ∷ f ∷ a ∷ (v ++ b ∷ z)) (type_value (the_ident n) xs (t ∷ n ∷ q ∷ f ∷ a ∷ (v ++ b ∷ w)))) (append-nil w)
-    (both (a_token t (is_only k.Type t.kind ht)) (both (an_ident n hn) (both (a_token q (is_only k.Equals q.kind hq)) (both (a_token f (is_only k.Enumeration f.kind hf)) (both (a_token a (is_only k.Open a.kind ha))
-    (both hv (both (a_token b (is_only k.Close b.kind hb)) (both {a = tt} hw (is_made (ap (type_value (the_ident n) xs) (sym (type_word t n q f a b v w))))))))))))))
+    (both (a_token t (is_only the.Type t.terminal ht)) (both (an_ident n hn) (both (a_token q (is_only the.Equals q.terminal hq)) (both (a_token f (is_only the.Enumeration f.terminal hf)) (both (a_token a (is_only the.Open a.terminal ha))
+    (both hv (both (a_token b (is_only the.Close b.terminal hb)) (both {a = tt} hw (is_made (ap (type_value (the_ident n) xs) (sym (type_word t n q f a b v w))))))))))))))
 
 class_comes : (s w : Word) (c : ClosedClass) → ClassIs w c → ClassR s w c
 class_comes s w c h = subst (λ z. ClassR s w (closed_class c.class z)) (sym h.2) (class_out s h.1)
 
 -- the least class
 least_word : Word
-least_word = token_of k.Block ∷ token_of k.Identifier ∷ token_of k.End ∷ token_of k.Identifier ∷ []
+least_word = token_of the.Block ∷ token_of the.Identifier ∷ token_of the.End ∷ token_of the.Identifier ∷ []
 
 least_class : ClosedClass
-least_class = closed_class (the_block (the_ident (token_of k.Identifier)) [] [] least_word) (first_wrong (the_closing (the_ident (token_of k.Identifier)) (the_ident (token_of k.Identifier)) ∷ []))
+least_class = closed_class (the_block (the_ident (token_of the.Identifier)) [] [] least_word) (first_wrong (the_closing (the_ident (token_of the.Identifier)) (the_ident (token_of the.Identifier)) ∷ []))
 
 least_is : ClassIs least_word least_class
 unfolding least_word least_class
 least_is = (
-  the_closing (the_ident (token_of k.Identifier)) (the_ident (token_of k.Identifier)) ∷ [],
-  a_block (token_of k.Block) (token_of k.Identifier) (token_of k.End) (token_of k.Identifier) refl refl no_text no_block_part no_equation refl refl,
+  the_closing (the_ident (token_of the.Identifier)) (the_ident (token_of the.Identifier)) ∷ [],
+  a_block (token_of the.Block) (token_of the.Identifier) (token_of the.End) (token_of the.Identifier) refl refl no_text no_block_part no_equation refl refl,
   refl,
 )
 
 -- ---- the function
 
-abbrev pub package_parts : List Kind
-package_parts = k.Public ∷ k.Protected ∷ k.Annotation ∷ k.Final ∷ k.Constant ∷ k.Block ∷ k.Package ∷ k.Type ∷ []
+abbrev pub package_parts : List Terminal
+package_parts = the.Public ∷ the.Protected ∷ the.Annotation ∷ the.Final ∷ the.Constant ∷ the.Block ∷ the.Package ∷ the.Type ∷ []
 
-abbrev constants : List Kind
-constants = k.Final ∷ k.Constant ∷ []
+abbrev constants : List Terminal
+constants = the.Final ∷ the.Constant ∷ []
 
 module _ (d : ℕ) (whole : Parser ClosedClass) (p : PackageParts) where
   by_section : Parser PackageParts
@@ -238,37 +238,37 @@ module _ (d : ℕ) (whole : Parser ClosedClass) (p : PackageParts) where
   by_note i = and_then (read_note d i) (λ _. pure p)
 
   abbrev from_constant : Parser PackageParts
-  from_constant i = (if member constants (kind i) then spec.package_constant d whole p else spec.package_class_part d whole p) i
+  from_constant i = (if member constants (terminal i) then spec.package_constant d whole p else spec.package_class_part d whole p) i
 
   abbrev from_note : Parser PackageParts
-  from_note i = (if same_kind (kind i) k.Annotation then by_note else from_constant) i
+  from_note i = (if same_terminal (terminal i) the.Annotation then by_note else from_constant) i
 
   abbrev from_section : Parser PackageParts
-  from_section i = (if member sections (kind i) then by_section else from_note) i
+  from_section i = (if member sections (terminal i) then by_section else from_note) i
 
-  flat : Kind → Parser PackageParts
+  flat : Terminal → Parser PackageParts
   flat kd i =
       if member sections kd then by_section i else
-      (if same_kind kd k.Annotation then by_note i else
+      (if same_terminal kd the.Annotation then by_note i else
       (if member constants kd then spec.package_constant d whole p i else spec.package_class_part d whole p i))
 
-  flat_is : (kd : Kind) (i : Word) → spec.package_part_by d whole p kd i ≡ flat kd i
-  unfolding flat same_kind by_section by_note
-  flat_is k.Public i = refl
-  flat_is k.Protected i = refl
-  flat_is k.Annotation i = refl
-  flat_is k.Final i = refl
-  flat_is k.Constant i = refl
+  flat_is : (kd : Terminal) (i : Word) → spec.package_part_by d whole p kd i ≡ flat kd i
+  unfolding flat same_terminal by_section by_note
+  flat_is the.Public i = refl
+  flat_is the.Protected i = refl
+  flat_is the.Annotation i = refl
+  flat_is the.Final i = refl
+  flat_is the.Constant i = refl
   flat_is _ i = refl
 
-  nested_is : (i : Word) → from_section i ≡ flat (kind i) i
+  nested_is : (i : Word) → from_section i ≡ flat (terminal i) i
   unfolding flat
   nested_is i =
-      apart (member sections (kind i)) by_section from_note _ i
-      (apart (same_kind (kind i) k.Annotation) by_note from_constant _ i (apart (member constants (kind i)) (spec.package_constant d whole p) (spec.package_class_part d whole p) _ i refl))
+      apart (member sections (terminal i)) by_section from_note _ i
+      (apart (same_terminal (terminal i) the.Annotation) by_note from_constant _ i (apart (member constants (terminal i)) (spec.package_constant d whole p) (spec.package_class_part d whole p) _ i refl))
 
-  part_is : (i : Word) → spec.package_part_by d whole p (kind i) i ≡ from_section i
-  part_is i = flat_is (kind i) i ∙ sym (nested_is i)
+  part_is : (i : Word) → spec.package_part_by d whole p (terminal i) i ≡ from_section i
+  part_is i = flat_is (terminal i) i ∙ sym (nested_is i)
 
 module _ (d : ℕ) (whole : Parser ClosedClass) where
   abbrev pack_step : PackageParts → Word → Parser PackageParts
@@ -279,97 +279,97 @@ module _ (d : ℕ) (whole : Parser ClosedClass) where
 
   loop_is : Loop spec.begins_package_part pack_step pack_loop
   unfolding spec.package_parts_from
-  loop_is = record { at_end = λ a s i. refl; turn = λ n a s i. turn n a i (spec.begins_package_part (kind i)) }
+  loop_is = record { at_end = λ a s i. refl; turn = λ n a s i. turn n a i (spec.begins_package_part (terminal i)) }
     where
       turn : (n : ℕ) (p : PackageParts) (i : Word) (b : Bool) → (if b then (λ i. and_then (spec.package_part d whole p i) (λ more. spec.package_parts_from d whole n more)) else pure p) i
           ≡ (if b then and_then (spec.package_part d whole p i) (λ more. spec.package_parts_from d whole n more) else pure p i)
       turn n p i true = refl
       turn n p i false = refl
 
-  any_flat : Kind → Parser ClosedClass
+  any_flat : Terminal → Parser ClosedClass
   any_flat kd i =
-      if same_kind kd k.Block then spec.block d i else (if same_kind kd k.Package then spec.package_class d whole i else (if same_kind kd k.Type then spec.enumeration d i else Err i))
+      if same_terminal kd the.Block then spec.block d i else (if same_terminal kd the.Package then spec.package_class d whole i else (if same_terminal kd the.Type then spec.enumeration d i else Err i))
 
-  any_flat_is : (kd : Kind) (i : Word) → spec.class_by d whole kd i ≡ any_flat kd i
-  unfolding any_flat same_kind
-  any_flat_is k.Block i = refl
-  any_flat_is k.Package i = refl
-  any_flat_is k.Type i = refl
+  any_flat_is : (kd : Terminal) (i : Word) → spec.class_by d whole kd i ≡ any_flat kd i
+  unfolding any_flat same_terminal
+  any_flat_is the.Block i = refl
+  any_flat_is the.Package i = refl
+  any_flat_is the.Type i = refl
   any_flat_is _ i = refl
 
   abbrev from_type : Parser ClosedClass
-  from_type i = (if same_kind (kind i) k.Type then spec.enumeration d else (λ i. Err i)) i
+  from_type i = (if same_terminal (terminal i) the.Type then spec.enumeration d else (λ i. Err i)) i
 
   abbrev from_pack : Parser ClosedClass
-  from_pack i = (if same_kind (kind i) k.Package then spec.package_class d whole else from_type) i
+  from_pack i = (if same_terminal (terminal i) the.Package then spec.package_class d whole else from_type) i
 
   abbrev from_block : Parser ClosedClass
-  from_block i = (if same_kind (kind i) k.Block then spec.block d else from_pack) i
+  from_block i = (if same_terminal (terminal i) the.Block then spec.block d else from_pack) i
 
-  any_is : (i : Word) → spec.class_by d whole (kind i) i ≡ from_block i
+  any_is : (i : Word) → spec.class_by d whole (terminal i) i ≡ from_block i
   unfolding any_flat
   any_is i =
-      any_flat_is (kind i) i
-      ∙ sym (apart (same_kind (kind i) k.Block) (spec.block d) from_pack _ i
-      (apart (same_kind (kind i) k.Package) (spec.package_class d whole) from_type _ i (apart (same_kind (kind i) k.Type) (spec.enumeration d) (λ i. Err i) _ i refl)))
+      any_flat_is (terminal i) i
+      ∙ sym (apart (same_terminal (terminal i) the.Block) (spec.block d) from_pack _ i
+      (apart (same_terminal (terminal i) the.Package) (spec.package_class d whole) from_type _ i (apart (same_terminal (terminal i) the.Type) (spec.enumeration d) (λ i. Err i) _ i refl)))
 
-abbrev pub after_class : List Kind
-after_class = k.Semicolon ∷ []
+abbrev pub after_class : List Terminal
+after_class = the.Semicolon ∷ []
 
 module _ (d d' : ℕ) where
-  block_law : Law (suc d) (suc d') BlockR (k.Block ∷ []) after_class (λ s. spec.block d) (λ s. spec.block d')
-  unfolding spec.block same_kind
+  block_law : Law (suc d) (suc d') BlockR (the.Block ∷ []) after_class (λ s. spec.block d) (λ s. spec.block d')
+  unfolding spec.block same_terminal
   block_law =
-      begun_law (word_less k.Block refl (then_law {U = k.Str ∷ (block_parts ++ after_block_parts)} ident_law
+      begun_law (word_less the.Block refl (then_law {U = the.Str ∷ (block_parts ++ after_block_parts)} ident_law
       (λ n. then_law {U = block_parts ++ after_block_parts} (text_law d d' (block_parts ++ after_block_parts) refl refl)
       (λ _. then_law {U = after_block_parts} (block_parts_law d d')
-      (λ xs. then_law {U = k.End ∷ []} (equation_law d d')
-      (λ cs. word_then k.End refl (then_law {U = after_class} ident_law (λ m. made_law {S = after_class} (block_value n xs cs m)) refl)) refl) refl) refl) refl))
+      (λ xs. then_law {U = the.End ∷ []} (equation_law d d')
+      (λ cs. word_then the.End refl (then_law {U = after_class} ident_law (λ m. made_law {S = after_class} (block_value n xs cs m)) refl)) refl) refl) refl) refl))
 
-  type_less : Law (suc d) (suc d') TypeR (k.Type ∷ []) after_class (λ s. spec.enumeration d) (λ s. spec.enumeration d')
-  unfolding spec.enumeration same_kind
+  type_less : Law (suc d) (suc d') TypeR (the.Type ∷ []) after_class (λ s. spec.enumeration d) (λ s. spec.enumeration d')
+  unfolding spec.enumeration same_terminal
   type_less =
-      begun_law (word_less k.Type refl (then_law {U = k.Equals ∷ []} ident_law
-      (λ n. word_then k.Equals refl (word_then k.Enumeration refl (word_then k.Open refl (then_law {U = k.Close ∷ []} (literals_law d d')
-      (λ xs. word_then k.Close refl (wider (after_condition) after_class refl refl (then_law {U = after_tail} (tail_law d d') (λ _. made_law {S = after_tail} (type_value n xs)) refl))) refl)))) refl))
+      begun_law (word_less the.Type refl (then_law {U = the.Equals ∷ []} ident_law
+      (λ n. word_then the.Equals refl (word_then the.Enumeration refl (word_then the.Open refl (then_law {U = the.Close ∷ []} (literals_law d d')
+      (λ xs. word_then the.Close refl (wider (after_condition) after_class refl refl (then_law {U = after_tail} (tail_law d d') (λ _. made_law {S = after_tail} (type_value n xs)) refl))) refl)))) refl))
 
   module _ (whole whole' : Parser ClosedClass) (h : Law d d' AnyClass classes after_class (λ s. whole) (λ s. whole')) where
-    pub clause_law : (S : List Kind) → Law d d' (Closed ClassIs k.Semicolon) classes S (λ s. spec.class_clause d whole) (λ s. spec.class_clause d' whole')
-    unfolding spec.class_clause same_kind
-    clause_law S = closing_law {X = ClassIs} {U = after_class} {S = S} k.Semicolon refl h refl
+    pub clause_law : (S : List Terminal) → Law d d' (Closed ClassIs the.Semicolon) classes S (λ s. spec.class_clause d whole) (λ s. spec.class_clause d' whole')
+    unfolding spec.class_clause same_terminal
+    clause_law S = closing_law {X = ClassIs} {U = after_class} {S = S} the.Semicolon refl h refl
 
-    pack_law : (S : List Kind) (p : PackageParts) → Law d d' (PackStep p) package_parts S (pack_step d whole p) (pack_step d' whole' p)
-    unfolding spec.package_part spec.package_constant spec.package_class_part same_kind by_section by_note
+    pack_law : (S : List Terminal) (p : PackageParts) → Law d d' (PackStep p) package_parts S (pack_step d whole p) (pack_step d' whole' p)
+    unfolding spec.package_part spec.package_constant spec.package_class_part same_terminal by_section by_note
     pack_law S p =
         shaped (pack_goes p) (pack_comes p)
         (like (λ s i. part_is d whole p i) (λ s i. part_is d' whole' p i)
         (either_law (member sections) (section_part S p)
-        (either_law (λ kd. same_kind kd k.Annotation) (note_part d d' S p)
+        (either_law (λ kd. same_terminal kd the.Annotation) (note_part d d' S p)
         (either_law (member constants) (then_law {U = S} (constant_law d d' S p.constants) (λ xs. pure_law {S = S} (with_constants p xs)) (within_self S))
         (then_law {U = S} (clause_law S) (λ c. pure_law {S = S} (with_class p c)) (within_self S)) refl refl) refl refl) refl refl))
 
-    packs_law : Law d d' (λ u. PackIs) (package_parts ++ k.End ∷ []) (k.End ∷ []) (λ s. spec.package_parts d whole) (λ s. spec.package_parts d' whole')
-    unfolding spec.package_parts same_kind
+    packs_law : Law d d' (λ u. PackIs) (package_parts ++ the.End ∷ []) (the.End ∷ []) (λ s. spec.package_parts d whole) (λ s. spec.package_parts d' whole')
+    unfolding spec.package_parts same_terminal
     packs_law =
         shaped (λ u. packs_in) (λ u. packs_comes)
-        (begun_law (repeat_law d d' spec.begins_package_part (pack_step d whole) (pack_step d' whole') (pack_loop d whole) (pack_loop d' whole') PackStep package_parts (k.End ∷ []) (package_parts ++ k.End ∷ [])
-        (loop_is d whole) (loop_is d' whole') pack_some (pack_law (package_parts ++ k.End ∷ [])) refl refl refl d d' (omega arith) (omega arith) (pack [] [] None)))
+        (begun_law (repeat_law d d' spec.begins_package_part (pack_step d whole) (pack_step d' whole') (pack_loop d whole) (pack_loop d' whole') PackStep package_parts (the.End ∷ []) (package_parts ++ the.End ∷ [])
+        (loop_is d whole) (loop_is d' whole') pack_some (pack_law (package_parts ++ the.End ∷ [])) refl refl refl d d' (omega arith) (omega arith) (pack [] [] None)))
 
-    package_law : Law (suc d) (suc d') PackageR (k.Package ∷ []) after_class (λ s. spec.package_class d whole) (λ s. spec.package_class d' whole')
-    unfolding spec.package_class same_kind
+    package_law : Law (suc d) (suc d') PackageR (the.Package ∷ []) after_class (λ s. spec.package_class d whole) (λ s. spec.package_class d' whole')
+    unfolding spec.package_class same_terminal
     package_law =
-        begun_law (word_less k.Package refl (then_law {U = k.Str ∷ (package_parts ++ k.End ∷ [])} ident_law
-        (λ n. then_law {U = package_parts ++ k.End ∷ []} (text_law d d' (package_parts ++ k.End ∷ []) refl refl)
-        (λ _. then_law {U = k.End ∷ []} packs_law
-        (λ p. word_then k.End refl (then_law {U = after_class} ident_law (λ m. made_law {S = after_class} (package_value n p m)) refl)) refl) refl) refl))
+        begun_law (word_less the.Package refl (then_law {U = the.Str ∷ (package_parts ++ the.End ∷ [])} ident_law
+        (λ n. then_law {U = package_parts ++ the.End ∷ []} (text_law d d' (package_parts ++ the.End ∷ []) refl refl)
+        (λ _. then_law {U = the.End ∷ []} packs_law
+        (λ p. word_then the.End refl (then_law {U = after_class} ident_law (λ m. made_law {S = after_class} (package_value n p m)) refl)) refl) refl) refl))
 
     any_law : Law (suc d) (suc d') AnyClass classes after_class (λ s. spec.any_class d whole) (λ s. spec.any_class d' whole')
-    unfolding spec.any_class same_kind
+    unfolding spec.any_class same_terminal
     any_law =
         shaped class_in class_comes
         (like (λ s i. any_is d whole i) (λ s i. any_is d' whole' i)
-        (either_law (λ kd. same_kind kd k.Block) block_law
-        (either_law (λ kd. same_kind kd k.Package) package_law (guarded_law (λ kd. same_kind kd k.Type) type_less refl) refl refl) refl refl))
+        (either_law (λ kd. same_terminal kd the.Block) block_law
+        (either_law (λ kd. same_terminal kd the.Package) package_law (guarded_law (λ kd. same_terminal kd the.Type) type_less refl) refl refl) refl refl))
 
 pub class_law : (d d' : ℕ) → Law d d' AnyClass classes after_class (λ s. spec.class d) (λ s. spec.class d')
 unfolding spec.class

@@ -1,9 +1,10 @@
-pub mod Notes
-pub mod Decls
-pub mod Connects
 pub mod Ends
 pub mod Blocks
 pub mod ClassLaws
 pub mod FileLaws
 pub mod Longest
 pub mod Top
+pub mod Formed
+pub mod Counted
+pub mod Verdicts
+pub mod Closings

@@ -3,7 +3,7 @@ use Rattle.std.proofs.Common.{◌≡◌, ℕ, zero, suc, ◌+◌, ◌-◌, ◌�
 use Rattle.std.proofs.Math.Seq.{take-append_seam, take-append-add}
 use Rattle.cdl_tree.specs.declared.class.FileTree.{FileTree}
 use Rattle.cdl_tree.specs.declared.class.Closing.{Closing}
-use Rattle.cdl_tree.specs.Words.{Terminal, Word, same_kind}
+use Rattle.cdl_tree.specs.Words.{Lexeme, Word, same_terminal}
 use Rattle.cdl_tree.specs.Grammar.{FileOf, Begins, Longest}
 use Rattle.cdl_parse.specs.declared.closed.ClosedFile.{ClosedFile}
 use Rattle.cdl_reading.specs.Reading.{Outcome, and_then, pure, expect_end}
@@ -19,23 +19,23 @@ closed_file t ends = record { tree = t; wrong = first_wrong ends }
 pub is_file : (w : Word) (t : FileTree) (ends : List Closing) → FileOf w t ends → FileIs w (closed_file t ends)
 is_file w t ends f = (ends, f, refl)
 
-apart : (o : Option ClosedFile) (y : ClosedFile) (x : Terminal) (r : Word) → stops o (x ∷ r) ≡ Ok (y, []) → ⊥
+apart : (o : Option ClosedFile) (y : ClosedFile) (x : Lexeme) (r : Word) → stops o (x ∷ r) ≡ Ok (y, []) → ⊥
 apart None y x r g = cc
 apart (Some z) y x r g = let both = same_pair (z, x ∷ r) (y, []) g in let never : x ∷ r ≡ [] = ap (λ z. z.1) both in cc
 
 pub read_file : (d : ℕ) (t : Word) (y : ClosedFile) → FileIs t y → length t ≤ d → file d t ≡ Ok (y, [])
-unfolding same_kind
+unfolding same_terminal
 read_file d t y h le = ap (file d) (sym (append-nil t)) ∙ (file_law d d).takes.takes [] t [] y h le refl
 
 -- no file begins with what was read and the token at which the parser stopped
-blocked : (w r r' : Word) (x : Terminal) (o : Option ClosedFile) (y : ClosedFile) → file (length (w ++ x ∷ r)) (w ++ x ∷ r) ≡ stops o (x ∷ r) → FileIs (w ++ x ∷ r') y → ⊥
+blocked : (w r r' : Word) (x : Lexeme) (o : Option ClosedFile) (y : ClosedFile) → file (length (w ++ x ∷ r)) (w ++ x ∷ r) ≡ stops o (x ∷ r) → FileIs (w ++ x ∷ r') y → ⊥
 blocked w r r' x o y stop f =
     let d : ℕ = length (w ++ x ∷ r) in
     let d' : ℕ = length (w ++ x ∷ r') in
     let same = (file_law d d').alike.alike [] w r r' x o (omega arith) (omega (arith, length-append w (x ∷ r'))) stop in
     apart o y x r' (sym same ∙ read_file d' (w ++ x ∷ r') y f (omega arith))
 
-longest_at : (t w r : Word) (x : Terminal) (o : Option ClosedFile) → t ≡ w ++ x ∷ r → file (length t) t ≡ stops o (x ∷ r) → (m : ℕ) → Begins (take m t) → m ≤ length w
+longest_at : (t w r : Word) (x : Lexeme) (o : Option ClosedFile) → t ≡ w ++ x ∷ r → file (length t) t ≡ stops o (x ∷ r) → (m : ℕ) → Begins (take m t) → m ≤ length w
 longest_at t w r x o split stop m b = go (m - length w) refl
   where
     go : (k : ℕ) → m - length w ≡ k → m ≤ length w

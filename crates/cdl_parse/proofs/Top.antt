@@ -7,18 +7,24 @@ use Rattle.std.specs.Str.{bytes_eq}
 use Rattle.std.specs.List.{slice_get}
 use Rattle.cdl_source.specs.declared.place.Token.{Token}
 use Rattle.cdl_lex.specs.TokenList.{TokenList}
+use Rattle.cdl_lex.specs.Texts.{AreTokens}
 use Rattle.cdl_tree.specs.declared.class.FileTree.{FileTree}
 use Rattle.cdl_tree.specs.declared.class.Closing.{Closing}
 use Rattle.cdl_tree.specs.Words.{Word}
-use Rattle.cdl_tree.specs.Terminals.{terminal}
+use Rattle.cdl_tree.specs.Terminals.{lexeme}
 use Rattle.cdl_tree.specs.Grammar.{IsClosed, Sentence, Longest}
+use Rattle.cdl_tree.specs.FormedFiles.{formed_file}
 use Rattle.cdl_parse.specs.declared.closed.ClosedFile.{ClosedFile}
 use Rattle.cdl_reading.specs.Reading.{Outcome, and_then, pure, expect_end}
 use Rattle.cdl_parse.specs.Classes.{wrong_end, or_then, file, whole_file}
 use Rattle.cdl_reading.specs.Reading.{word_of}
+use Rattle.cdl_parse.specs.Names.{names_of_file}
 use Rattle.cdl_parse.specs.Verdict.{AllClosed, Closes, begin_of, Stuck, Misnamed}
 use Rattle.cdl_reading.proofs.Steps.{Shape}
 use Rattle.cdl_reading.proofs.Alike.{same_pair}
+use Rattle.cdl_reading.proofs.Spelled.{words_spelled}
+use Rattle.cdl_parse.proofs.Formed.{file_formed}
+use Rattle.cdl_parse.proofs.Counted.{file_counted}
 use Rattle.cdl_parse.proofs.Ends.{first_wrong}
 use Rattle.cdl_parse.proofs.FileLaws.{FileIs, AnyFile, file_law}
 use Rattle.cdl_parse.proofs.Longest.{closed_file, is_file, read_file, fault_place}
@@ -40,11 +46,11 @@ whole_is_file t j x e = go (file (length t) t) ((file_law (length t) (length t))
     go (Ok p) s e = at p.0 p.1 s.0 s.1 s.2 e
 
 -- what is derived is read to its end
-file_is_whole : (t : Word) (x : ClosedFile) → FileIs t x → whole_file (length t) t ≡ Ok (x, [])
+pub file_is_whole : (t : Word) (x : ClosedFile) → FileIs t x → whole_file (length t) t ≡ Ok (x, [])
 unfolding whole_file expect_end
 file_is_whole t x h = ap (λ r. and_then r (λ y i. and_then (expect_end i) (λ _. pure y))) (read_file (length t) t x h (omega arith))
 
-one_file : (t j : Word) (x y : ClosedFile) → whole_file (length t) t ≡ Ok (x, j) → FileIs t y → x ≡ y
+pub one_file : (t j : Word) (x y : ClosedFile) → whole_file (length t) t ≡ Ok (x, j) → FileIs t y → x ≡ y
 one_file t j x y e h = same_file x y j [] (sym e ∙ file_is_whole t y h)
 
 -- A word has one tree.
@@ -57,7 +63,7 @@ one_tree w t u s r =
 none_wrong : (c : Closing) → IsClosed c → wrong_end c.name c.end ≡ None
 none_wrong c e = ap (λ b. if b then None else Some c.end.span.start) ((bytes_eq-Decides c.name.text c.end.text).1 (sym e))
 
-all_closed : (ends : List Closing) → AllClosed ends → first_wrong ends ≡ None
+pub all_closed : (ends : List Closing) → AllClosed ends → first_wrong ends ≡ None
 all_closed [] a = refl
 all_closed (c ∷ cs) a = ap (λ z. or_then z (first_wrong cs)) (none_wrong c a.0) ∙ all_closed cs a.1
 
@@ -118,7 +124,7 @@ misnamed_law tokens j x at e some =
 pub place_law : (tokens : TokenList) (j : Word) (n : ℕ) → whole_file (length (word_of tokens)) (word_of tokens) ≡ Err j → n ≡ length tokens.items - length j
     → Stuck tokens (record { file = tokens.file; byte = begin_of tokens.bytes tokens.items n })
 place_law tokens j n e count =
-    let all : length (word_of tokens) ≡ length tokens.items = length-map tokens.items (terminal tokens.bytes) in
+    let all : length (word_of tokens) ≡ length tokens.items = length-map tokens.items (lexeme tokens.bytes) in
     let at : n ≡ length (word_of tokens) - length j = omega (arith, all, count) in
     record {
       no_sentence = stuck_law (word_of tokens) j e;
@@ -126,12 +132,20 @@ place_law tokens j n e count =
       at = (n, subst (Longest (word_of tokens)) (sym at) (fault_place (word_of tokens) j e), refl);
     }
 
+-- ---- what every tree of a text promises
+
+pub formed_law : (tokens : TokenList) → AreTokens tokens.bytes tokens.items → (tree : FileTree) → Closes (word_of tokens) tree → formed_file tree ≡ true
+formed_law tokens a tree s = file_formed s.1 (words_spelled tokens a)
+
+pub few_law : (tokens : TokenList) (tree : FileTree) → Closes (word_of tokens) tree → names_of_file tree ≤ length tokens.items
+few_law tokens tree s = omega (arith, file_counted s.1, length-map tokens.items (lexeme tokens.bytes))
+
 -- ---- what `parse` knows of its calls
 
 pub at_tokens : (tokens : TokenList) (most : ℕ) (i : Word) (r : Outcome ClosedFile) → most ≡ length tokens.items → i ≡ word_of tokens → whole_file most i ≡ r
     → whole_file (length (word_of tokens)) (word_of tokens) ≡ r
 at_tokens tokens most i r few all e =
-    let count : length (word_of tokens) ≡ most = length-map tokens.items (terminal tokens.bytes) ∙ sym few in
+    let count : length (word_of tokens) ≡ most = length-map tokens.items (lexeme tokens.bytes) ∙ sym few in
     ap (λ n. whole_file n (word_of tokens)) count ∙ ap (whole_file most) (sym all) ∙ e
 
 pub begin_at : (bytes : List ℕ) (ts : List Token) (n : ℕ) (t : Token) → slice_get ts n ≡ Some t → t.span.start ≡ begin_of bytes ts n

@@ -1,8 +1,8 @@
 -- The parser of classes and files, as a function.
 use Rattle.std.specs.Prelude.{ℕ, zero, suc, Bool, true, false, if◌then◌else◌, List, [], ◌∷◌, ◌++◌, Option, Some, None, Ok, Err}
 use Rattle.std.specs.Str.{bytes_eq}
-use Rattle.cdl_tree.specs.declared.kind.Kind.{Kind}
-use Rattle.cdl_tree.specs.declared.kind.Kind.TheVariants as k
+use Rattle.cdl_tree.specs.declared.terminal.Terminal.{Terminal}
+use Rattle.cdl_tree.specs.declared.terminal.Terminal.TheVariants as the
 use Rattle.cdl_tree.specs.declared.name.Ident.{Ident}
 use Rattle.cdl_tree.specs.declared.name.Name.{Name}
 use Rattle.cdl_tree.specs.declared.class.Item.{Item}
@@ -13,14 +13,15 @@ use Rattle.cdl_parse.specs.declared.closed.ClosedClass.{ClosedClass}
 use Rattle.cdl_parse.specs.declared.closed.ClosedFile.{ClosedFile}
 use Rattle.cdl_parse.specs.declared.closed.FileParts.{FileParts}
 use Rattle.cdl_parse.specs.declared.closed.PackageParts.{PackageParts}
-use Rattle.cdl_reading.specs.Reading.{Parser, ◌>>=◌, ◌>>◌, pure, refuse, kind, next, peek, here, eat, expect, expect_end, ident, made, list}
+use Rattle.cdl_reading.specs.Reading.{Parser, ◌>>=◌, ◌>>◌, pure, refuse, terminal, next, peek, here, eat, expect, expect_end, ident, made, list}
 use Rattle.cdl_expressions.specs.Expressions.{name}
 use Rattle.cdl_expressions.specs.Arguments.{text_of}
-use Rattle.cdl_parse.specs.Declarations.{tail, note_clause, clause, constant, equation_part}
+use Rattle.cdl_clauses.specs.Declarations.{tail, note_clause, clause, constant}
+use Rattle.cdl_clauses.specs.Statements.{equation_part}
 
 -- "public" or "protected"
 unfoldable pub section : Parser (Unit {0})
-section = λ i. if is_section (kind i) then Ok (tt, next i) else Err i
+section = λ i. if is_section (terminal i) then Ok (tt, next i) else Err i
 
 -- where the identifier behind `end` stands, unless it is the class's
 abbrev pub wrong_end : Ident → Ident → Option ℕ
@@ -39,44 +40,44 @@ with_class found c = record { classes = found.classes ++ c.class ∷ []; constan
 abbrev pub with_constants : PackageParts → List Item → PackageParts
 with_constants found constants = record { classes = found.classes; constants = constants; wrong = found.wrong }
 
-abbrev pub begins_block_part : Kind → Bool
-begins_block_part k.Public = true
-begins_block_part k.Protected = true
-begins_block_part k.Annotation = true
-begins_block_part k.Final = true
-begins_block_part k.Parameter = true
-begins_block_part k.Constant = true
-begins_block_part k.Identifier = true
+abbrev pub begins_block_part : Terminal → Bool
+begins_block_part the.Public = true
+begins_block_part the.Protected = true
+begins_block_part the.Annotation = true
+begins_block_part the.Final = true
+begins_block_part the.Parameter = true
+begins_block_part the.Constant = true
+begins_block_part the.Identifier = true
 begins_block_part _ = false
 
-abbrev pub begins_class : Kind → Bool
-begins_class k.Block = true
-begins_class k.Package = true
-begins_class k.Type = true
+abbrev pub begins_class : Terminal → Bool
+begins_class the.Block = true
+begins_class the.Package = true
+begins_class the.Type = true
 begins_class _ = false
 
-abbrev pub begins_package_part : Kind → Bool
-begins_package_part k.Public = true
-begins_package_part k.Protected = true
-begins_package_part k.Annotation = true
-begins_package_part k.Final = true
-begins_package_part k.Constant = true
-begins_package_part k.Block = true
-begins_package_part k.Package = true
-begins_package_part k.Type = true
+abbrev pub begins_package_part : Terminal → Bool
+begins_package_part the.Public = true
+begins_package_part the.Protected = true
+begins_package_part the.Annotation = true
+begins_package_part the.Final = true
+begins_package_part the.Constant = true
+begins_package_part the.Block = true
+begins_package_part the.Package = true
+begins_package_part the.Type = true
 begins_package_part _ = false
 
 module _ (most : ℕ) where
   -- ---- blocks
 
-  abbrev pub block_part_by : List Item → Kind → Parser (List Item)
-  block_part_by found k.Public = do
+  abbrev pub block_part_by : List Item → Terminal → Parser (List Item)
+  block_part_by found the.Public = do
     section
     pure found
-  block_part_by found k.Protected = do
+  block_part_by found the.Protected = do
     section
     pure found
-  block_part_by found k.Annotation = do
+  block_part_by found the.Annotation = do
     note_clause most
     pure found
   block_part_by found _ = clause most found
@@ -87,20 +88,20 @@ module _ (most : ℕ) where
   unfoldable pub block_parts_from : ℕ → List Item → Parser (List Item)
   block_parts_from zero found = pure found
   block_parts_from (suc turns) found = do
-    kind ← peek
-    if begins_block_part kind then (do more ← block_part found; block_parts_from turns more) else pure found
+    terminal ← peek
+    if begins_block_part terminal then (do more ← block_part found; block_parts_from turns more) else pure found
 
   unfoldable pub block : Parser ClosedClass
   block = do
     start ← here
-    expect k.Block
+    expect the.Block
     name ← ident
     text_of most
     items ← block_parts_from most []
-    connects ← equation_part most
-    expect k.End
+    statements ← equation_part most
+    expect the.End
     end ← ident
-    made (λ w. closed (the_block name items connects w) (wrong_end name end)) start
+    made (λ w. closed (the_block name items statements w) (wrong_end name end)) start
 
   -- ---- enumerations
 
@@ -111,18 +112,18 @@ module _ (most : ℕ) where
     pure name
 
   unfoldable pub literal_list : Parser (List Ident)
-  literal_list = list k.Comma literal_of most []
+  literal_list = list the.Comma literal_of most []
 
   unfoldable pub enumeration : Parser ClosedClass
   enumeration = do
     start ← here
-    expect k.Type
+    expect the.Type
     name ← ident
-    expect k.Equals
-    expect k.Enumeration
-    expect k.Open
+    expect the.Equals
+    expect the.Enumeration
+    expect the.Open
     literals ← literal_list
-    expect k.Close
+    expect the.Close
     tail most
     made (λ w. closed (the_enumeration name literals w) None) start
 
@@ -132,7 +133,7 @@ module _ (most : ℕ) where
     unfoldable pub class_clause : Parser ClosedClass
     class_clause = do
       c ← whole
-      expect k.Semicolon
+      expect the.Semicolon
       pure c
 
     unfoldable pub package_constant : PackageParts → Parser PackageParts
@@ -145,18 +146,18 @@ module _ (most : ℕ) where
       c ← class_clause
       pure (with_class found c)
 
-    abbrev pub package_part_by : PackageParts → Kind → Parser PackageParts
-    package_part_by found k.Public = do
+    abbrev pub package_part_by : PackageParts → Terminal → Parser PackageParts
+    package_part_by found the.Public = do
       section
       pure found
-    package_part_by found k.Protected = do
+    package_part_by found the.Protected = do
       section
       pure found
-    package_part_by found k.Annotation = do
+    package_part_by found the.Annotation = do
       note_clause most
       pure found
-    package_part_by found k.Final = package_constant found
-    package_part_by found k.Constant = package_constant found
+    package_part_by found the.Final = package_constant found
+    package_part_by found the.Constant = package_constant found
     package_part_by found _ = package_class_part found
 
     unfoldable pub package_part : PackageParts → Parser PackageParts
@@ -165,8 +166,8 @@ module _ (most : ℕ) where
     unfoldable pub package_parts_from : ℕ → PackageParts → Parser PackageParts
     package_parts_from zero found = pure found
     package_parts_from (suc turns) found = do
-      kind ← peek
-      if begins_package_part kind then (do more ← package_part found; package_parts_from turns more) else pure found
+      terminal ← peek
+      if begins_package_part terminal then (do more ← package_part found; package_parts_from turns more) else pure found
 
     unfoldable pub package_parts : Parser PackageParts
     package_parts = package_parts_from most (record { classes = []; constants = []; wrong = None })
@@ -174,18 +175,18 @@ module _ (most : ℕ) where
     unfoldable pub package_class : Parser ClosedClass
     package_class = do
       start ← here
-      expect k.Package
+      expect the.Package
       name ← ident
       text_of most
       parts ← package_parts
-      expect k.End
+      expect the.End
       end ← ident
       made (λ w. closed (the_package name parts.classes parts.constants w) (or_then parts.wrong (wrong_end name end))) start
 
-    abbrev pub class_by : Kind → Parser ClosedClass
-    class_by k.Block = block
-    class_by k.Package = package_class
-    class_by k.Type = enumeration
+    abbrev pub class_by : Terminal → Parser ClosedClass
+    class_by the.Block = block
+    class_by the.Package = package_class
+    class_by the.Type = enumeration
     class_by _ = refuse
 
     unfoldable pub any_class : Parser ClosedClass
@@ -201,12 +202,12 @@ class (suc depth) = any_class depth (class depth)
 module _ (most : ℕ) where
   unfoldable pub within_name : Parser (Option Name)
   within_name = do
-    top ← eat k.Semicolon
-    if top then pure None else (do parts ← name most; expect k.Semicolon; pure (Some (the_name parts)))
+    top ← eat the.Semicolon
+    if top then pure None else (do parts ← name most; expect the.Semicolon; pure (Some (the_name parts)))
 
   unfoldable pub within : Parser (Option Name)
   within = do
-    some ← eat k.Within
+    some ← eat the.Within
     if some then within_name else pure None
 
   -- class ";", behind the classes that are found
@@ -218,8 +219,8 @@ module _ (most : ℕ) where
   unfoldable pub file_from : ℕ → FileParts → Parser FileParts
   file_from zero found = pure found
   file_from (suc turns) found = do
-    kind ← peek
-    if begins_class kind then (do more ← file_class found; file_from turns more) else pure found
+    terminal ← peek
+    if begins_class terminal then (do more ← file_class found; file_from turns more) else pure found
 
   unfoldable pub file_classes : Parser FileParts
   file_classes = do

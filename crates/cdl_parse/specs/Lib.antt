@@ -1,3 +1,3 @@
-pub mod Declarations
 pub mod Classes
+pub mod Names
 pub mod Verdict

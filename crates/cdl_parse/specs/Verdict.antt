@@ -1,6 +1,7 @@
 -- What parsing a whole list of tokens answers.
 use Rattle.std.specs.Prelude.{◌≡◌, ◌⊎◌, ℕ, zero, suc, List, [], ◌∷◌, ◌++◌, length, Result, Ok, Err}
 use Rattle.cdl_source.specs.declared.place.Place.{Place}
+use Rattle.cdl_source.specs.declared.rules.TheConstants.{SYNTAX, WRONG_END_NAME}
 use Rattle.cdl_source.specs.declared.place.Token.{Token}
 use Rattle.cdl_lex.specs.TokenList.{TokenList}
 use Rattle.cdl_tree.specs.declared.class.FileTree.{FileTree}
@@ -46,5 +47,5 @@ pub record Misnamed (tokens : TokenList) (place : Place) : Type 0 where
 
 -- Why tokens are refused: they are no sentence, or an identifier behind an `end` is wrong.
 abbrev pub IsRefused : TokenList → ParseFault → Type 0
-IsRefused tokens (Rule rule place) = ((rule ≡ 7) × Stuck tokens place) ⊎ ((rule ≡ 8) × Misnamed tokens place)
+IsRefused tokens (Rule rule place) = ((rule ≡ SYNTAX) × Stuck tokens place) ⊎ ((rule ≡ WRONG_END_NAME) × Misnamed tokens place)
 IsRefused tokens OutOfMemory = Unit {0}

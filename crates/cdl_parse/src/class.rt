@@ -5,12 +5,11 @@ ghost use Rattle.cdl_reading.specs.Gives.{Gives, Nests};
 ghost use Rattle.cdl_parse.specs.Classes as spec;
 
 use crate::closed::{ClosedClass, FileParts, PackageParts};
-use crate::connection::equation_part;
-use cdl_reading::{Cursor, Fault};
-use crate::declaration::{clause, constant, note_clause, tail};
+use cdl_clauses::{clause, constant, equation_part, note_clause, tail};
 use cdl_expressions::text;
+use cdl_reading::{Cursor, Fault, list};
 use cdl_source::List;
-use cdl_tree::{ClassTree, Ident, Item, Kind};
+use cdl_tree::{ClassTree, Ident, Item, Terminal};
 use std::alloc::Global;
 
 // Where the identifier behind `end` stands, unless it is the class's.
@@ -34,11 +33,11 @@ fn or_then(first: Option<u32>, later: Option<u32>) -> Option<u32>
     }
 }
 
-fn is_section(kind: Kind) -> bool
-    ensures { result ≡ grammar.is_section kind }
+fn is_section(terminal: Terminal) -> bool
+    ensures { result ≡ grammar.is_section terminal }
 {
-    match kind {
-        Kind::Public | Kind::Protected => true,
+    match terminal {
+        Terminal::Public | Terminal::Protected => true,
         _ => false,
     }
 }
@@ -55,17 +54,17 @@ fn section(tokens: &mut Cursor<'_>) -> Result<(), Fault>
     Ok(())
 }
 
-fn begins_block_part(kind: Kind) -> bool
-    ensures { result ≡ spec.begins_block_part kind }
+fn begins_block_part(terminal: Terminal) -> bool
+    ensures { result ≡ spec.begins_block_part terminal }
 {
-    match kind {
-        Kind::Public
-        | Kind::Protected
-        | Kind::Annotation
-        | Kind::Final
-        | Kind::Parameter
-        | Kind::Constant
-        | Kind::Identifier => true,
+    match terminal {
+        Terminal::Public
+        | Terminal::Protected
+        | Terminal::Annotation
+        | Terminal::Final
+        | Terminal::Parameter
+        | Terminal::Constant
+        | Terminal::Identifier => true,
         _ => false,
     }
 }
@@ -81,11 +80,11 @@ fn block_part(
     ensures { Gives (spec.block_part most found tokens.old) result tokens.new }
 {
     match tokens.peek() {
-        Kind::Public | Kind::Protected => {
+        Terminal::Public | Terminal::Protected => {
             section(tokens)?;
             Ok(found)
         }
-        Kind::Annotation => {
+        Terminal::Annotation => {
             note_clause(tokens, most)?;
             Ok(found)
         }
@@ -107,25 +106,25 @@ fn block_parts(alloc: Global, tokens: &mut Cursor<'_>, most: usize) -> Result<Li
     Ok(found)
 }
 
-// "block" IDENT text { "public" | "protected" | note ";" | clause } [ "equation" { connect | note ";" } ] "end" IDENT
+// "block" IDENT text { "public" | "protected" | note ";" | clause } [ "equation" { statement | note ";" } ] "end" IDENT
 #[tactic(auto, unfolding(crate::specs::Classes::block, cdl_reading::specs::Reading::made, cdl_tree::specs::Trees::the_block))]
 fn block(alloc: Global, tokens: &mut Cursor<'_>, most: usize) -> Result<ClosedClass, Fault>
     ensures { Gives (spec.block most tokens.old) result tokens.new }
 {
     let start = tokens.here();
-    tokens.expect(Kind::Block)?;
+    tokens.expect(Terminal::Block)?;
     let name = tokens.ident(alloc)?;
     text(tokens, most)?;
     let items = block_parts(alloc, tokens, most)?;
-    let connects = equation_part(alloc, tokens, most)?;
-    tokens.expect(Kind::End)?;
+    let statements = equation_part(alloc, tokens, most)?;
+    tokens.expect(Terminal::End)?;
     let end = tokens.ident(alloc)?;
     let wrong = wrong_end(&name, &end);
     let span = tokens.span_since(&start);
     let class = ClassTree::Block {
         name,
         items,
-        connects,
+        statements,
         span,
     };
     Ok(ClosedClass { class, wrong })
@@ -142,18 +141,12 @@ fn literal(alloc: Global, tokens: &mut Cursor<'_>, most: usize) -> Result<Ident,
 }
 
 // literal { "," literal }
+#[tactic(auto, unfolding(crate::specs::Classes::literal_list))]
 fn literals(alloc: Global, tokens: &mut Cursor<'_>, most: usize) -> Result<List<Ident>, Fault>
     ensures { Gives (spec.literal_list most tokens.old) result tokens.new }
 {
-    let mut found = List::new(alloc);
-    found.push(literal(alloc, tokens, most)?)?;
-    for _turn in 0..most {
-        if !tokens.eat(Kind::Comma) {
-            return Ok(found);
-        }
-        found.push(literal(alloc, tokens, most)?)?;
-    }
-    Ok(found)
+    let literal = |tokens: &mut Cursor<'_>| literal(alloc, tokens, most);
+    list(tokens, Terminal::Comma, most, &literal, List::new(alloc))
 }
 
 // "type" IDENT "=" "enumeration" "(" literal { "," literal } ")" tail
@@ -162,13 +155,13 @@ fn enumeration(alloc: Global, tokens: &mut Cursor<'_>, most: usize) -> Result<Cl
     ensures { Gives (spec.enumeration most tokens.old) result tokens.new }
 {
     let start = tokens.here();
-    tokens.expect(Kind::Type)?;
+    tokens.expect(Terminal::Type)?;
     let name = tokens.ident(alloc)?;
-    tokens.expect(Kind::Equals)?;
-    tokens.expect(Kind::Enumeration)?;
-    tokens.expect(Kind::Open)?;
+    tokens.expect(Terminal::Equals)?;
+    tokens.expect(Terminal::Enumeration)?;
+    tokens.expect(Terminal::Open)?;
     let literals = literals(alloc, tokens, most)?;
-    tokens.expect(Kind::Close)?;
+    tokens.expect(Terminal::Close)?;
     tail(tokens, most)?;
     let span = tokens.span_since(&start);
     let class = ClassTree::Enumeration {
@@ -179,18 +172,18 @@ fn enumeration(alloc: Global, tokens: &mut Cursor<'_>, most: usize) -> Result<Cl
     Ok(ClosedClass { class, wrong: None })
 }
 
-fn begins_package_part(kind: Kind) -> bool
-    ensures { result ≡ spec.begins_package_part kind }
+fn begins_package_part(terminal: Terminal) -> bool
+    ensures { result ≡ spec.begins_package_part terminal }
 {
-    match kind {
-        Kind::Public
-        | Kind::Protected
-        | Kind::Annotation
-        | Kind::Final
-        | Kind::Constant
-        | Kind::Block
-        | Kind::Package
-        | Kind::Type => true,
+    match terminal {
+        Terminal::Public
+        | Terminal::Protected
+        | Terminal::Annotation
+        | Terminal::Final
+        | Terminal::Constant
+        | Terminal::Block
+        | Terminal::Package
+        | Terminal::Type => true,
         _ => false,
     }
 }
@@ -223,7 +216,7 @@ impl<F: Fn(Global, &mut Cursor<'_>, usize) -> Result<ClosedClass, Fault>> Classe
         ensures { Gives (spec.package_class_part self.now.depth (spec.class self.now.depth) found tokens.old) result tokens.new }
     {
         let inner = self.whole(tokens)?;
-        tokens.expect(Kind::Semicolon)?;
+        tokens.expect(Terminal::Semicolon)?;
         let PackageParts {
             mut classes,
             constants,
@@ -267,15 +260,15 @@ impl<F: Fn(Global, &mut Cursor<'_>, usize) -> Result<ClosedClass, Fault>> Classe
         ensures { Gives (spec.package_part self.now.depth (spec.class self.now.depth) found tokens.old) result tokens.new }
     {
         match tokens.peek() {
-            Kind::Public | Kind::Protected => {
+            Terminal::Public | Terminal::Protected => {
                 section(tokens)?;
                 Ok(found)
             }
-            Kind::Annotation => {
+            Terminal::Annotation => {
                 note_clause(tokens, self.depth)?;
                 Ok(found)
             }
-            Kind::Final | Kind::Constant => self.inner_constant(tokens, found),
+            Terminal::Final | Terminal::Constant => self.inner_constant(tokens, found),
             _ => self.inner_class(tokens, found),
         }
     }
@@ -306,7 +299,7 @@ impl<F: Fn(Global, &mut Cursor<'_>, usize) -> Result<ClosedClass, Fault>> Classe
         ensures { Gives (spec.package_class self.now.depth (spec.class self.now.depth) tokens.old) result tokens.new }
     {
         let start = tokens.here();
-        tokens.expect(Kind::Package)?;
+        tokens.expect(Terminal::Package)?;
         let name = tokens.ident(self.alloc)?;
         text(tokens, self.depth)?;
         let PackageParts {
@@ -314,7 +307,7 @@ impl<F: Fn(Global, &mut Cursor<'_>, usize) -> Result<ClosedClass, Fault>> Classe
             constants,
             wrong,
         } = self.parts(tokens)?;
-        tokens.expect(Kind::End)?;
+        tokens.expect(Terminal::End)?;
         let end = tokens.ident(self.alloc)?;
         let wrong = or_then(wrong, wrong_end(&name, &end));
         let span = tokens.span_since(&start);
@@ -333,9 +326,9 @@ impl<F: Fn(Global, &mut Cursor<'_>, usize) -> Result<ClosedClass, Fault>> Classe
         ensures { Gives (spec.any_class self.now.depth (spec.class self.now.depth) tokens.old) result tokens.new }
     {
         match tokens.peek() {
-            Kind::Block => block(self.alloc, tokens, self.depth),
-            Kind::Package => self.package(tokens),
-            Kind::Type => enumeration(self.alloc, tokens, self.depth),
+            Terminal::Block => block(self.alloc, tokens, self.depth),
+            Terminal::Package => self.package(tokens),
+            Terminal::Type => enumeration(self.alloc, tokens, self.depth),
             _ => Err(Fault::Syntax),
         }
     }
@@ -371,7 +364,7 @@ pub(crate) fn file_class(
     ensures { Gives (spec.file_class most found tokens.old) result tokens.new }
 {
     let inner = class(alloc, tokens, most)?;
-    tokens.expect(Kind::Semicolon)?;
+    tokens.expect(Terminal::Semicolon)?;
     let FileParts { mut classes, wrong } = found;
     let wrong = or_then(wrong, inner.wrong);
     classes.push(inner.class)?;

@@ -5,10 +5,10 @@ ghost use Rattle.cdl_parse.specs.Classes as spec;
 
 use crate::class::file_class;
 use crate::closed::{ClosedFile, FileParts};
-use cdl_reading::{Cursor, Fault};
 use cdl_expressions::name;
+use cdl_reading::{Cursor, Fault};
 use cdl_source::List;
-use cdl_tree::{FileTree, Kind, Name};
+use cdl_tree::{FileTree, Name, Terminal};
 use std::alloc::Global;
 
 // [ name ] ";"
@@ -16,11 +16,11 @@ use std::alloc::Global;
 fn within_name(alloc: Global, tokens: &mut Cursor<'_>, most: usize) -> Result<Option<Name>, Fault>
     ensures { Gives (spec.within_name most tokens.old) result tokens.new }
 {
-    if tokens.eat(Kind::Semicolon) {
+    if tokens.eat(Terminal::Semicolon) {
         return Ok(None);
     }
     let parts = name(alloc, tokens, most)?;
-    tokens.expect(Kind::Semicolon)?;
+    tokens.expect(Terminal::Semicolon)?;
     Ok(Some(Name { parts }))
 }
 
@@ -29,18 +29,18 @@ fn within_name(alloc: Global, tokens: &mut Cursor<'_>, most: usize) -> Result<Op
 fn within(alloc: Global, tokens: &mut Cursor<'_>, most: usize) -> Result<Option<Name>, Fault>
     ensures { Gives (spec.within most tokens.old) result tokens.new }
 {
-    if tokens.eat(Kind::Within) {
+    if tokens.eat(Terminal::Within) {
         within_name(alloc, tokens, most)
     } else {
         Ok(None)
     }
 }
 
-fn begins_class(kind: Kind) -> bool
-    ensures { result ≡ spec.begins_class kind }
+fn begins_class(terminal: Terminal) -> bool
+    ensures { result ≡ spec.begins_class terminal }
 {
-    match kind {
-        Kind::Block | Kind::Package | Kind::Type => true,
+    match terminal {
+        Terminal::Block | Terminal::Package | Terminal::Type => true,
         _ => false,
     }
 }

@@ -1,27 +1,27 @@
 //! The trees of files: the grammar's one tree of a list of tokens, or the exact place at which no sentence goes on.
 #![tactic(auto)]
 
-ghost use Rattle.std.specs.Prelude.{◌≡◌, IfOk, IfErr};
+ghost use Rattle.std.specs.Prelude.{◌≡◌, ◌≤◌, true, length, IfOk, IfErr};
 ghost use Rattle.cdl_parse.specs.declared.ParseFault.TheVariants.{Rule};
 ghost use Rattle.cdl_tree.specs.declared.class.FileTree.{FileTree as Tree};
+ghost use Rattle.cdl_tree.specs.FormedFiles.{formed_file};
 ghost use Rattle.cdl_reading.specs.Reading.{word_of};
+ghost use Rattle.cdl_parse.specs.Names.{names_of_file};
 ghost use Rattle.cdl_parse.specs.Verdict.{Closes, IsTree, IsRefused, begin_of};
 
 mod class;
 mod closed;
-mod connection;
-mod declaration;
 mod file;
 mod law;
 
 use crate::closed::ClosedFile;
-use cdl_reading::{Cursor, Fault};
 use crate::file::whole_file;
 use cdl_lex::Tokens;
 use cdl_reading::{Cursor, Fault};
 use cdl_source::Place;
+use cdl_source::rules::{SYNTAX, WRONG_END_NAME};
 use cdl_tree::FileTree;
-pub use law::one_tree;
+pub use law::{one_tree, one_verdict};
 use std::alloc::Global;
 
 /// Why tokens have no tree.
@@ -32,12 +32,6 @@ pub enum ParseFault {
     /// No memory was left for the tree.
     OutOfMemory,
 }
-
-// C7: the tokens are no file.
-const SYNTAX: u32 = 7;
-
-// C8: the identifier behind `end` is not that of its class.
-const WRONG_NAME: u32 = 8;
 
 /// The tree of the tokens of a file, where they are a sentence of the grammar (docs/LANGUAGE.md) and each identifier behind
 /// an `end` is that of its class. There is one.
@@ -50,6 +44,10 @@ const WRONG_NAME: u32 = 8;
 pub fn parse(alloc: Global, tokens: &Tokens) -> Result<FileTree, ParseFault>
     // The tree that is given derives the tokens, and the identifiers behind `end` are right.
     ensures found { IfOk result (λ tree. Closes (word_of tokens.now) tree) }
+    // It is formed: its identifiers are identifiers, its literals are not negative and fit, its strings are UTF-8, and so on.
+    ensures formed { IfOk result (λ tree. formed_file tree ≡ true) }
+    // It has at most as many names as there are tokens.
+    ensures few { IfOk result (λ tree. names_of_file tree ≤ length tokens.now.items) }
     // A tree that derives the tokens, with right identifiers behind `end`, is the one that is given, unless memory fails.
     ensures only { (tree : Tree) → Closes (word_of tokens.now) tree → IsTree tree result }
     // Tokens that are refused are no sentence, and the place is exact; or the first wrong identifier is named.
@@ -59,7 +57,7 @@ pub fn parse(alloc: Global, tokens: &Tokens) -> Result<FileTree, ParseFault>
     match whole_file(alloc, &mut cursor, tokens.len()) {
         Ok(ClosedFile { tree, wrong }) => match wrong {
             None => Ok(tree),
-            Some(byte) => Err(broken(tokens, WRONG_NAME, byte)),
+            Some(byte) => Err(broken(tokens, WRONG_END_NAME, byte)),
         },
         Err(Fault::Syntax) => {
             let before = tokens.len().saturating_sub(cursor.left());

@@ -4,3 +4,4 @@ pub mod Steps
 pub mod Alike
 pub mod Laws
 pub mod Repeats
+pub mod Spelled

@@ -17,3 +17,8 @@ pub record Nests {A : Type 0} (rule : ℕ → Parser A) (depth : ℕ) (pre : Glo
     (post : Global → MutBor Word → ℕ → Result A Fault → MutBor Word → Type 0) : Type 0 where
   pub callable : (alloc : Global) (old : MutBor Word) → pre alloc old depth
   pub gives : (alloc : Global) (old new : MutBor Word) (r : Result A Fault) → post alloc old depth r new → Gives (rule depth old.now) r new.now
+
+-- A function value that parses as a rule does.
+pub record ReadsAs {A : Type 0} (rule : Parser A) (pre : MutBor Word → Type 0) (post : MutBor Word → Result A Fault → MutBor Word → Type 0) : Type 0 where
+  pub callable : (old : MutBor Word) → pre old
+  pub gives : (old new : MutBor Word) (r : Result A Fault) → post old r new → Gives (rule old.now) r new.now

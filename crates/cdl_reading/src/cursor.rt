@@ -19,6 +19,7 @@ use std::marker::Model;
 /// Why a rule stopped.
 #[derive(Clone, Copy)]
 pub enum Fault {
+    /// No memory was left for a tree.
     OutOfMemory,
     /// The token at which the cursor stands.
     Syntax,
@@ -112,6 +113,7 @@ impl<'a> Cursor<'a> {
         self.tokens.token(self.at).span
     }
 
+    /// Whether a token of this terminal is next.
     #[tactic(auto, unfolding(crate::specs::Reading::sees, cdl_tree::specs::Words::same_terminal))]
     pub fn sees(&self, terminal: Terminal) -> bool
         ensures { result ≡ spec.sees terminal self.now }
@@ -141,7 +143,7 @@ impl<'a> Cursor<'a> {
         found
     }
 
-    /// Takes a token of this terminal. A fault leaves the cursor where it was.
+    /// Takes a token of this terminal. `Syntax` where another is next, which stays next.
     #[tactic(auto, unfolding(crate::specs::Reading::expect))]
     pub fn expect(&mut self, terminal: Terminal) -> Result<(), Fault>
         ensures { Gives (spec.expect terminal self.old) result self.new }
@@ -154,7 +156,7 @@ impl<'a> Cursor<'a> {
         }
     }
 
-    /// Nothing is taken, and no token may be left.
+    /// Takes nothing: `Syntax` where a token is left.
     #[tactic(auto, unfolding(crate::specs::Reading::expect_end))]
     pub fn expect_end(&self) -> Result<(), Fault>
         ensures { Gives (spec.expect_end self.now) result self.now }
@@ -166,7 +168,7 @@ impl<'a> Cursor<'a> {
         }
     }
 
-    /// Takes an identifier. A fault leaves the cursor where it was.
+    /// Takes an identifier, with its span. `Syntax` where another token is next, which stays next.
     #[tactic(auto, unfolding(crate::specs::Reading::ident))]
     pub fn ident(&mut self, alloc: Global) -> Result<Ident, Fault>
         ensures { Gives (spec.ident self.old) result self.new }
@@ -181,7 +183,7 @@ impl<'a> Cursor<'a> {
         Ok(Ident { text, span })
     }
 
-    /// Takes a whole number that is not too great. A fault leaves the cursor where it was.
+    /// Takes a whole number. `Syntax` where another token is next or the number is above 2,147,483,647; the token stays next.
     #[tactic(auto, unfolding(crate::specs::Reading::literal))]
     pub fn integer(&mut self) -> Result<i32, Fault>
         ensures { Gives (spec.literal Terminal.Integer literals.integer_of self.old) result self.new }
@@ -196,7 +198,8 @@ impl<'a> Cursor<'a> {
         Ok(value)
     }
 
-    /// Takes another number that is in range. A fault leaves the cursor where it was.
+    /// Takes another number, as its count of millionths. `Syntax` where another token is next or the number is not read as a
+    /// `Real`; the token stays next.
     #[tactic(auto, unfolding(crate::specs::Reading::literal))]
     pub fn real(&mut self) -> Result<Real, Fault>
         ensures { Gives (spec.literal Terminal.Real spec.real_of self.old) result self.new }
@@ -211,7 +214,7 @@ impl<'a> Cursor<'a> {
         Ok(value)
     }
 
-    /// Takes a string. A fault leaves the cursor where it was.
+    /// Takes a string: the bytes that it means. `Syntax` where another token is next or the string is none; the token stays next.
     #[tactic(auto, unfolding(crate::specs::Reading::literal))]
     pub fn string(&mut self, alloc: Global) -> Result<Text, Fault>
         ensures { Gives (spec.literal Terminal.Str literals.string_of self.old) result self.new }
@@ -236,7 +239,8 @@ impl<'a> Cursor<'a> {
         }
     }
 
-    /// The bytes of the tokens that were read since `start`.
+    /// Where the tokens that were read since `start` stand, from the first byte of the first to behind the last one's last; from 0 to
+    /// 0 where none was read.
     pub fn span_since(&self, start: &Cursor<'_>) -> Span
         ensures { result ≡ words.span_of (spec.since start.now self.now) }
     {
@@ -252,7 +256,7 @@ impl<'a> Cursor<'a> {
         }
     }
 
-    /// The expression over the tokens that were read since `start`.
+    /// The expression of this node, over the tokens that were read since `start`.
     #[tactic(auto, unfolding(cdl_tree::specs::Trees::tree))]
     pub fn made(&self, node: Node, start: &Cursor<'_>) -> Expr
         ensures { result ≡ trees.tree node (spec.since start.now self.now) }

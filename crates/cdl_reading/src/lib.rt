@@ -2,5 +2,9 @@
 #![tactic(auto)]
 
 mod cursor;
+mod law;
+mod lists;
 
 pub use cursor::{Cursor, Fault};
+pub use law::spelled_words;
+pub use lists::{list, list_behind};

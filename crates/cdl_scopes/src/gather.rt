@@ -1,5 +1,6 @@
 // The declared classes, gathered from the trees of the files.
 ghost use Rattle.std.specs.Prelude.{◌≡◌, ◌++◌, ◌∷◌, ◌<◌, ◌≤◌, [], List, ℕ, Some, None, IfOk, OnOk, length, slice_get, nat_eq, if◌then◌else◌};
+ghost use Rattle.cdl_source.specs.declared.limits.TheConstants.{MOST_MODELS};
 ghost use Rattle.std.specs.Option.{option_or};
 ghost use Rattle.indexmap.specs.IndexMap.{get};
 ghost use Rattle.cdl_tree.specs.declared.class.FileTree.{FileTree as FileTreeOf};
@@ -185,7 +186,7 @@ fn gather_file(
 
 /// The classes of all files.
 pub fn gather_files(alloc: Global, files: &[FileTree]) -> Result<Classes, OutOfMemory>
-    requires { length files.now ≤ 64 }
+    requires { length files.now ≤ MOST_MODELS }
     ensures { IfOk result (λ all. IsGathered files.now all library (declared files.now)) }
 {
     let mut all = no_classes(alloc)?;

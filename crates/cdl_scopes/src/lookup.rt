@@ -17,8 +17,8 @@ ghost use Rattle.cdl_scopes.specs.declared.lookup.ClassSort.TheVariants as sort;
 use crate::gather::{Class, Classes};
 use crate::names::{Node, TOP};
 use crate::scopes::Outwards;
-use cdl_values::ValueType;
 use cdl_tree::{ClassTree, FileTree, Ident};
+use cdl_values::ValueType;
 
 /// What a declared class is.
 #[derive(Clone, Copy, Debug, PartialEq, Eq)]

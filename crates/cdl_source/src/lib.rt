@@ -30,6 +30,6 @@ pub use mem_files::MemFiles;
 pub use mem_sink::MemSink;
 pub use memory::OutOfMemory;
 pub use outside::{Failed, Files, Sink};
-pub use place::{Place, Sort, Span, Token, line_column};
+pub use place::{Place, Span, Token, TokenSort, line_column};
 pub use text::Text;
 pub use whole::{ReadError, read_whole, write_whole};

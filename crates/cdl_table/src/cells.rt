@@ -4,8 +4,8 @@ ghost use Rattle.csv.specs.Records.{field_at, fields_of};
 ghost use Rattle.cdl_table.specs.Cells.{boolean_word, integer_word, number_of, real_word, time_of, word_of};
 
 use cdl_decimal::parse;
-use cdl_values::ValueType;
 use cdl_source::{LARGEST_INTEGER, LATEST_TIME};
+use cdl_values::ValueType;
 use csv::ByteRecord;
 
 // The most digits of the text of a time, and of the magnitude of an Integer.

@@ -14,8 +14,8 @@ ghost use Rattle.cdl_table.specs.Values.{AreValues};
 
 use crate::Column;
 use cdl_decimal::{Real, text};
-use cdl_values::ValueType;
 use cdl_source::{Failed, List, OutOfMemory, Sink, Text, write_whole};
+use cdl_values::ValueType;
 use csv::{ByteRecord, WriterBuilder};
 use itoa::Buffer;
 use std::alloc::{AllocError, Global};

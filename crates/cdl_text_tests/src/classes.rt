@@ -1,15 +1,17 @@
 // Texts, the rules on classes that they break, and what names mean in them. The expected answers were worked out apart from the
 // program.
-ghost use Rattle.std.specs.Prelude.{◌<◌, length};
+ghost use Rattle.std.specs.Prelude.{◌≡◌, ◌<◌, true, length, IfOk, OnOk};
+ghost use Rattle.std.specs.List.{list_all};
+ghost use Rattle.cdl_tree.specs.FormedFiles.{formed_file};
 ghost use Rattle.cdl_scopes.specs.Classes.{declared};
 
 use cdl_classes::{ClassFault, ClassId, ClassTable, Found, ValueFound};
 use cdl_kinds::find;
-use cdl_values::ValueType;
 use cdl_lex::lex;
 use cdl_parse::parse;
 use cdl_source::{List, Place, Span, Text};
 use cdl_tree::{FileTree, Ident, Name};
+use cdl_values::ValueType;
 use std::alloc::Global;
 use std::test::Fail;
 
@@ -135,7 +137,10 @@ struct Marked {
     place: Option<Place>,
 }
 
-fn add_text(alloc: Global, marked: &mut Marked, file: u32, words: &str) -> Result<(), Fail> {
+fn add_text(alloc: Global, marked: &mut Marked, file: u32, words: &str) -> Result<(), Fail>
+    requires { list_all formed_file marked.old.trees ≡ true }
+    ensures { OnOk result (list_all formed_file marked.new.trees ≡ true) }
+{
     let mut text = Text::new(alloc);
     match words.split_once('~') {
         Some((front, back)) => {
@@ -153,7 +158,9 @@ fn add_text(alloc: Global, marked: &mut Marked, file: u32, words: &str) -> Resul
     Ok(())
 }
 
-fn trees(alloc: Global, row: &str) -> Result<Marked, Fail> {
+fn trees(alloc: Global, row: &str) -> Result<Marked, Fail>
+    ensures { IfOk result (λ m. list_all formed_file m.trees ≡ true) }
+{
     let mut marked = Marked {
         trees: List::new(alloc),
         place: None,
@@ -166,7 +173,9 @@ fn trees(alloc: Global, row: &str) -> Result<Marked, Fail> {
     Ok(marked)
 }
 
-fn build(alloc: Global, trees: List<FileTree>) -> Result<Result<ClassTable, ClassFault>, Fail> {
+fn build(alloc: Global, trees: List<FileTree>) -> Result<Result<ClassTable, ClassFault>, Fail>
+    requires { list_all formed_file trees ≡ true }
+{
     if trees.items().len() > 64 {
         return Err("too many files".into());
     }

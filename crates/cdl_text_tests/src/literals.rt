@@ -1,5 +1,5 @@
 // Values of literals, and the terminals of the grammar.
-use cdl_source::Sort;
+use cdl_source::TokenSort;
 use cdl_tree::{Terminal, integer, string, terminal_of};
 use std::test::Fail;
 
@@ -33,13 +33,13 @@ fn literals_and_terminals(rt: HostRuntime) -> Result<(), Fail> {
             _ => panic!(rt; "not as wanted"),
         }
     }
-    let terminals: [(Sort, &[u8], Terminal); 6] = [
-        (Sort::Identifier, b"a", Terminal::Identifier),
-        (Sort::Keyword, b"elseif", Terminal::ElseIf),
-        (Sort::Keyword, b"when", Terminal::Other),
-        (Sort::Symbol, b"<>", Terminal::NotEqual),
-        (Sort::Symbol, b"^", Terminal::Other),
-        (Sort::Str, b"\"if\"", Terminal::Str),
+    let terminals: [(TokenSort, &[u8], Terminal); 6] = [
+        (TokenSort::Identifier, b"a", Terminal::Identifier),
+        (TokenSort::Keyword, b"elseif", Terminal::ElseIf),
+        (TokenSort::Keyword, b"when", Terminal::Other),
+        (TokenSort::Symbol, b"<>", Terminal::NotEqual),
+        (TokenSort::Symbol, b"^", Terminal::Other),
+        (TokenSort::Str, b"\"if\"", Terminal::Str),
     ];
     for (sort, text, terminal) in terminals {
         assert_eq!(rt; terminal_of(sort, text), terminal);

@@ -2,6 +2,7 @@
 use cdl_lex::lex;
 use cdl_parse::{ParseFault, parse};
 use cdl_source::{Place, Span, Text};
+use cdl_tree::Statement;
 use std::alloc::Global;
 use std::test::Fail;
 
@@ -43,7 +44,12 @@ const RIGHT: &str = "\
     block M parameter R p = if a then 1 elseif b then 2 else f() + g(1, x[2, 3]); end M;\n\
     block M parameter R p = not a and -b < c * 2.5e1 or {1, {2}} == (d); end M;\n\
     block M parameter R p = \"a\" \"b\"; end M;\n\
-    block M equation end M;\n";
+    block M equation end M;\n\
+    block M equation for i in 1:n loop connect(u[i], d[4-i].u); connect(d[i].y, y[i]); end for; end M;\n\
+    block M equation for i in 1:3 loop end for; end M;\n\
+    block M equation for i in 1:3 loop for j in i:f(i) loop connect(a[i, j], b); end for; connect(c, d); for k in 2:1 loop end for; end for; annotation(); connect(e, f); end M;\n\
+    block M equation for i in if a then 1 else 2:3 loop connect(a, b) \"w\" annotation(for); end for; end M;\n\
+    block M annotation(for end loop in); equation annotation(end for); end M;\n";
 
 // Texts that are no sentence.
 const BROKEN: &str = "\
@@ -209,7 +215,47 @@ const BROKEN: &str = "\
     type E = enumeration(a) ~end E;\n\
     block M equation~\n\
     block M equation connect(a, b); end~\n\
-    block M equation connect(a, b); end M~\n";
+    block M equation connect(a, b); end M~\n\
+    block M equation for~\n\
+    block M equation for i~\n\
+    block M equation for i in~\n\
+    block M equation for i in 1~\n\
+    block M equation for i in 1:~\n\
+    block M equation for i in 1:2~\n\
+    block M equation for i in 1:2 loop~\n\
+    block M equation for i in 1:2 loop connect(a, b);~\n\
+    block M equation for i in 1:2 loop end~\n\
+    block M equation for i in 1:2 loop end for~\n\
+    block M equation for i in 1:2 loop end for;~\n\
+    block M equation for i ~1:2 loop end for; end M;\n\
+    block M equation for i ~loop end for; end M;\n\
+    block M equation for i in ~:2 loop end for; end M;\n\
+    block M equation for i in 1 ~loop end for; end M;\n\
+    block M equation for i in {1, 2} ~loop end for; end M;\n\
+    block M equation for i in 1:~loop end for; end M;\n\
+    block M equation for i in 1:2~:3 loop end for; end M;\n\
+    block M equation for i in 1:2~, j in 1:2 loop end for; end M;\n\
+    block M equation for i~, j in 1:2 loop end for; end M;\n\
+    block M equation for i~[1] in 1:2 loop end for; end M;\n\
+    block M equation for ~loop in 1:2 loop end for; end M;\n\
+    block M equation for ~(i in 1:2) loop end for; end M;\n\
+    block M equation for i in 1:2 ~connect(a, b); end for; end M;\n\
+    block M equation for i in 1:2 loop ~annotation(); end for; end M;\n\
+    block M equation for i in 1:2 loop connect(a, b); ~annotation(); end for; end M;\n\
+    block M equation for i in 1:2 loop ~; end for; end M;\n\
+    block M equation for i in 1:2 loop ~R x; end for; end M;\n\
+    block M equation for i in 1:2 loop ~equation end for; end M;\n\
+    block M equation for i in 1:2 loop end ~M;\n\
+    block M equation for i in 1:2 loop end ~; end M;\n\
+    block M equation for i in 1:2 loop end for ~end M;\n\
+    block M equation for i in 1:2 loop end for ~i; end M;\n\
+    block M equation for i in 1:2 loop for j in 1:2 loop end for; end ~M;\n\
+    block M equation for i in 1:2 loop end for; end ~for; end M;\n\
+    block M equation end ~for; end M;\n\
+    block M ~for i in 1:2 loop end for; end M;\n\
+    package P ~for i in 1:2 loop end for; end P;\n\
+    block M R ~for; end M;\n\
+    block M R x = ~in; end M;\n";
 
 // Sentences with a wrong identifier behind an `end`.
 const MISNAMED: &str = "\
@@ -218,7 +264,61 @@ const MISNAMED: &str = "\
     package P block M end M; end ~Q;\n\
     block A end A; block B end ~A;\n\
     block M end ~m;\n\
-    package P package Q end ~P; end P; block M end N;\n";
+    package P package Q end ~P; end P; block M end N;\n\
+    block M equation for i in 1:2 loop end for; end ~N;\n";
+
+// The statements of a block, and their trees: each connect statement and each loop with its span, a loop with its index, the spans of its
+// bounds and its body. Spans count from the start of the block.
+const STATEMENTS: &str = "\
+    for i in 1:n loop connect(u[i], d[4-i].u); connect(d[i].y, y[i]); end for; ? for(17-91) i 26-27:28-29 {connect(35-59) connect(60-82) } \n\
+    for i in 1:3 loop end for; ? for(17-43) i 26-27:28-29 {} \n\
+    for i in a+1:(b) loop for j in i:f(i) loop connect(a[i, j], b); end for; connect(c, d); for k in 2:1 loop end for; end for; annotation(); connect(e, f); ? for(17-140) i 26-29:31-32 {for(39-89) j 48-49:50-54 {connect(60-80) } connect(90-104) for(105-131) k 114-115:116-117 {} } connect(155-169) \n\
+    connect(a, b); for i in 1:1 loop for j in 1:1 loop for k in 1:1 loop end for; end for; end for; for i in 2:2 loop end for; ? connect(17-31) for(32-112) i 41-42:43-44 {for(50-103) j 59-60:61-62 {for(68-94) k 77-78:79-80 {} } } for(113-139) i 122-123:124-125 {} ";
+
+fn show_span(alloc: Global, out: &mut Text, word: &[u8], span: Span) -> Result<(), Fail> {
+    out.push(word)?;
+    out.push(format!(in alloc; "{}-{}", span.start, span.end)?.as_bytes())?;
+    Ok(())
+}
+
+fn show(alloc: Global, out: &mut Text, statements: &[Statement]) -> Result<(), Fail> {
+    for statement in statements {
+        match statement {
+            Statement::Connect(connect) => {
+                show_span(alloc, out, b"connect(", connect.span)?;
+                out.push(b") ")?;
+            }
+            Statement::Loop(each) => {
+                show_span(alloc, out, b"for(", each.span)?;
+                out.push(b") ")?;
+                out.push(each.index.text.bytes())?;
+                show_span(alloc, out, b" ", each.low.span)?;
+                show_span(alloc, out, b":", each.high.span)?;
+                out.push(b" {")?;
+                show(alloc, out, each.body.items())?;
+                out.push(b"} ")?;
+            }
+        }
+    }
+    Ok(())
+}
+
+#[test]
+fn loops_have_their_trees(rt: HostRuntime) -> Result<(), Fail> {
+    let alloc = rt.alloc();
+    for row in STATEMENTS.lines() {
+        let (statements, want) = row.split_once(" ? ").ok_or("no tree")?;
+        let text = format!(in alloc; "block M equation {statements} end M;")?;
+        let tokens = lex(alloc, 0, text.as_bytes())?;
+        let file = parse(alloc, &tokens)?;
+        let mut out = Text::new(alloc);
+        for class in file.classes.items() {
+            show(alloc, &mut out, class.statements())?;
+        }
+        assert_eq!(rt; out.bytes(), want.as_bytes(), "{row}");
+    }
+    Ok(())
+}
 
 #[test]
 fn each_text_has_a_tree_or_its_place(rt: HostRuntime) -> Result<(), Fail> {
@@ -258,8 +358,13 @@ fn places_at_the_end_of_a_file(rt: HostRuntime) -> Result<(), Fail> {
         for item in class.items() {
             assert_eq!(rt; item.span, Span { start: 10, end: 16 });
         }
-        for connect in class.connects() {
-            assert_eq!(rt; connect.span, Span { start: 27, end: 45 });
+        for statement in class.statements() {
+            match statement {
+                Statement::Connect(connect) => {
+                    assert_eq!(rt; connect.span, Span { start: 27, end: 45 });
+                }
+                Statement::Loop(_) => assert!(rt; false, "a loop"),
+            }
         }
     }
     Ok(())

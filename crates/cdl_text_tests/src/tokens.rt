@@ -1,6 +1,6 @@
 // Tokens, and the rules of texts that are broken first, with their bytes.
 use cdl_lex::{LexFault, lex};
-use cdl_source::{Place, Sort, Span, Token};
+use cdl_source::{Place, Span, Token, TokenSort};
 use std::alloc::Global;
 use std::test::Fail;
 
@@ -132,7 +132,13 @@ fn each_rule_has_its_first_byte(rt: HostRuntime) -> Result<(), Fail> {
         (b"", b"(block)", 65, b"", Verdict::Has(195)),
         (b"", b"(end", 64, b")", Verdict::Has(129)),
         (b"", b"for i in 1:1 loop ", 64, b"", Verdict::Has(448)),
-        (b"", b"for i in 1:1 loop ", 65, b"", Verdict::Breaks(5, 1152)),
+        (
+            b"",
+            b"for i in 1:1 loop ",
+            65,
+            b"",
+            Verdict::Breaks(5, 1152),
+        ),
         (b"block ", b"for ", 64, b"", Verdict::Breaks(5, 258)),
         (b"end ", b"for ", 65, b"", Verdict::Has(66)),
         (b"end ", b"for ", 66, b"", Verdict::Breaks(5, 264)),
@@ -210,14 +216,14 @@ fn tokens_have_sorts_and_spans(rt: HostRuntime) -> Result<(), Fail> {
     let text = b"within Block.block1>=\"a\\\"\"/*b*/1.5e3 12";
     let tokens = lex(alloc, 7, text)?;
     let want = [
-        (Sort::Keyword, 0, 6),
-        (Sort::Identifier, 7, 12),
-        (Sort::Symbol, 12, 13),
-        (Sort::Identifier, 13, 19),
-        (Sort::Symbol, 19, 21),
-        (Sort::Str, 21, 26),
-        (Sort::Real, 31, 36),
-        (Sort::Integer, 37, 39),
+        (TokenSort::Keyword, 0, 6),
+        (TokenSort::Identifier, 7, 12),
+        (TokenSort::Symbol, 12, 13),
+        (TokenSort::Identifier, 13, 19),
+        (TokenSort::Symbol, 19, 21),
+        (TokenSort::Str, 21, 26),
+        (TokenSort::Real, 31, 36),
+        (TokenSort::Integer, 37, 39),
     ];
     assert_eq!(rt; tokens.len(), want.len());
     assert_eq!(rt; tokens.file(), 7);

@@ -1,38 +1,39 @@
 -- A whole number read digit by digit is the number that its digits write.
 use Rattle.std.proofs.Common.{◌≡◌, ℕ, ◌+◌, ◌-◌, ◌*◌, ◌≤◌, ℤ, pos, Bool, true, false, ◌&&◌, nat_le, if◌then◌else◌, List, [], ◌∷◌, Option, Some, None, refl, sym, ap, ◌∙◌, arith}
+use Rattle.cdl_source.specs.declared.limits.TheConstants.{LARGEST_INTEGER}
 use Rattle.std.specs.Char.{is_ascii_digit}
 use Rattle.std.specs.List.{list_all}
 use Rattle.std.specs.Option.{option_map}
 use Rattle.std.proofs.lemmas.Bool.{le-leb, leb-true}
 use Rattle.std.proofs.lemmas.Bool.Decides.{nat_tests}
 use Rattle.cdl_decimal.specs.Spells.{number_after}
-use Rattle.cdl_tree.specs.Literals.{most_integer, integer_from, integer_of}
+use Rattle.cdl_tree.specs.Literals.{integer_from, integer_of}
 
 abbrev wanted : ℕ → List ℕ → Option ℤ
-wanted n ds = if list_all is_ascii_digit ds && nat_le (number_after n ds) most_integer then Some (pos (number_after n ds)) else None
+wanted n ds = if list_all is_ascii_digit ds && nat_le (number_after n ds) LARGEST_INTEGER then Some (pos (number_after n ds)) else None
 
 grows : (ds : List ℕ) (n : ℕ) → n ≤ number_after n ds
 grows [] n = omega arith
 grows (d ∷ ds) n = let h : n * 10 + (d - 48) ≤ number_after (n * 10 + (d - 48)) ds = grows ds (n * 10 + (d - 48)) in omega arith
 
-too_great : (ds : List ℕ) (n : ℕ) → nat_le n most_integer ≡ false → nat_le (number_after n ds) most_integer ≡ false
+too_great : (ds : List ℕ) (n : ℕ) → nat_le n LARGEST_INTEGER ≡ false → nat_le (number_after n ds) LARGEST_INTEGER ≡ false
 too_great ds n e = let h : n ≤ number_after n ds = grows ds n in grind (arith, nat_tests)
 
-none_of : (b : Bool) (m : ℕ) → nat_le m most_integer ≡ false → None ≡ (if b && nat_le m most_integer then Some (pos m) else None)
+none_of : (b : Bool) (m : ℕ) → nat_le m LARGEST_INTEGER ≡ false → None ≡ (if b && nat_le m LARGEST_INTEGER then Some (pos m) else None)
 none_of true m e = rw e refl
 none_of false m e = refl
 
 one_more : (b c : Bool) (m : ℕ) (ds : List ℕ) → (c ≡ true → option_map pos (integer_from (Some m) ds) ≡ wanted m ds)
-    → (c ≡ false → nat_le (number_after m ds) most_integer ≡ false)
+    → (c ≡ false → nat_le (number_after m ds) LARGEST_INTEGER ≡ false)
     → option_map pos (integer_from (if b && c then Some m else None) ds)
-    ≡ (if (b && list_all is_ascii_digit ds) && nat_le (number_after m ds) most_integer then Some (pos (number_after m ds)) else None)
+    ≡ (if (b && list_all is_ascii_digit ds) && nat_le (number_after m ds) LARGEST_INTEGER then Some (pos (number_after m ds)) else None)
 one_more false c m ds small great = refl
 one_more true true m ds small great = small refl
 one_more true false m ds small great = none_of (list_all is_ascii_digit ds) _ (great refl)
 
-from_is : (ds : List ℕ) (n : ℕ) → n ≤ most_integer → option_map pos (integer_from (Some n) ds) ≡ wanted n ds
-from_is [] n h = let t : nat_le n most_integer ≡ true = le-leb _ _ h in rw t refl
-from_is (d ∷ ds) n h = one_more (is_ascii_digit d) (nat_le (n * 10 + (d - 48)) most_integer) (n * 10 + (d - 48)) ds (λ e. from_is ds _ (leb-true _ _ e)) (λ e. too_great ds _ e)
+from_is : (ds : List ℕ) (n : ℕ) → n ≤ LARGEST_INTEGER → option_map pos (integer_from (Some n) ds) ≡ wanted n ds
+from_is [] n h = let t : nat_le n LARGEST_INTEGER ≡ true = le-leb _ _ h in rw t refl
+from_is (d ∷ ds) n h = one_more (is_ascii_digit d) (nat_le (n * 10 + (d - 48)) LARGEST_INTEGER) (n * 10 + (d - 48)) ds (λ e. from_is ds _ (leb-true _ _ e)) (λ e. too_great ds _ e)
 
 pub integer_is : (text : List ℕ) → option_map pos (integer_from (Some 0) text) ≡ integer_of text
 unfolding integer_of

@@ -5,5 +5,4 @@ mod Small
 mod SmallExprs
 mod SmallFiles
 pub mod Shapes
-pub mod FileShapes
 mod Evaluated

@@ -1,6 +1,6 @@
 -- The tokens and trees of the small texts, written shortly.
 use Rattle.std.proofs.Common.{ℕ, pos, Bool, List, [], ◌∷◌, Option, refl, codes}
-use Rattle.cdl_source.specs.declared.place.Sort.TheVariants as sort
+use Rattle.cdl_source.specs.declared.place.TokenSort.TheVariants as sort
 use Rattle.cdl_source.specs.declared.place.Span.{Span}
 use Rattle.cdl_source.specs.declared.place.Token.{Token}
 use Rattle.cdl_tree.specs.declared.name.Ident.{Ident}

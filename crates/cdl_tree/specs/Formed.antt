@@ -1,6 +1,7 @@
 -- What holds of every expression that a text has, and of what can be printed: it is proper, its identifiers are identifiers, its literals
 -- are not negative, and its strings are UTF-8.
 use Rattle.std.specs.Prelude.{ℤ, pos, negsuc, Bool, true, false, ◌&&◌, nat_le}
+use Rattle.cdl_source.specs.declared.limits.TheConstants.{LARGEST_INTEGER}
 use Rattle.std.specs.List.{list_all}
 use Rattle.std.specs.Str.{is_utf8}
 use Rattle.cdl_source.specs.Identifiers.{is_identifier}
@@ -8,7 +9,6 @@ use Rattle.cdl_tree.specs.declared.name.Ident.{Ident}
 use Rattle.cdl_tree.specs.declared.name.Name.{Name}
 use Rattle.cdl_tree.specs.declared.expr.Expr.{Expr, fold-Expr}
 use Rattle.cdl_tree.specs.declared.expr.Node.TheOpen.{Node-F, Expr-F}
-use Rattle.cdl_tree.specs.Literals.{most_integer}
 use Rattle.cdl_tree.specs.Proper.{is_some, all_of, is_proper}
 
 abbrev pub formed_ident : Ident → Bool
@@ -19,7 +19,7 @@ formed_name n = is_some n.parts && list_all formed_ident n.parts
 
 -- a whole number that a text may have
 abbrev pub is_integer : ℤ → Bool
-is_integer (pos n) = nat_le n most_integer
+is_integer (pos n) = nat_le n LARGEST_INTEGER
 is_integer (negsuc n) = false
 
 abbrev pub is_not_negative : ℤ → Bool

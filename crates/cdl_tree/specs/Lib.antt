@@ -5,7 +5,6 @@ pub mod Trees
 pub mod Grammar
 pub mod Parts
 pub mod Proper
-pub mod ProperFiles
 pub mod Spelled
 pub mod Formed
 pub mod FormedFiles

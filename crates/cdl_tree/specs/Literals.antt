@@ -1,20 +1,17 @@
 -- What the texts of literals mean.
 use Rattle.std.specs.Prelude.{ℕ, ◌+◌, ◌-◌, ◌*◌, ◌++◌, ℤ, pos, Bool, true, false, ◌&&◌, ◌||◌, ◌==◌, nat_le, if◌then◌else◌, List, [], ◌∷◌, Option, Some, None, Ok}
+use Rattle.cdl_source.specs.declared.limits.TheConstants.{LARGEST_INTEGER}
 use Rattle.std.specs.Char.{is_ascii_digit}
 use Rattle.std.specs.List.{list_all}
 use Rattle.cdl_decimal.specs.Spells.{number, Parses}
 
--- the greatest whole number that a text may have
-abbrev pub most_integer : ℕ
-most_integer = 2147483647
-
 -- the number that digits write, where it is not too great
 unfoldable pub integer_of : List ℕ → Option ℤ
-integer_of text = if list_all is_ascii_digit text && nat_le (number text) most_integer then Some (pos (number text)) else None
+integer_of text = if list_all is_ascii_digit text && nat_le (number text) LARGEST_INTEGER then Some (pos (number text)) else None
 
 -- the number with a digit more behind it, where it is not too great
 abbrev pub with_digit : ℕ → ℕ → Option ℕ
-with_digit n d = if is_ascii_digit d && nat_le (n * 10 + (d - 48)) most_integer then Some (n * 10 + (d - 48)) else None
+with_digit n d = if is_ascii_digit d && nat_le (n * 10 + (d - 48)) LARGEST_INTEGER then Some (n * 10 + (d - 48)) else None
 
 -- the number that digits write behind those of n, digit by digit
 abbrev pub integer_from : Option ℕ → List ℕ → Option ℕ

@@ -1,8 +1,8 @@
 -- Tokens as lexemes of the grammar, each with the terminal that it is.
 use Rattle.std.specs.Prelude.{ℕ, if◌then◌else◌, List, [], ◌∷◌, map, codes, slice_range}
 use Rattle.std.specs.Str.{bytes_eq}
-use Rattle.cdl_source.specs.declared.place.Sort.{Sort}
-use Rattle.cdl_source.specs.declared.place.Sort.TheVariants as sort
+use Rattle.cdl_source.specs.declared.place.TokenSort.{TokenSort}
+use Rattle.cdl_source.specs.declared.place.TokenSort.TheVariants as sort
 use Rattle.cdl_source.specs.declared.place.Token.{Token}
 use Rattle.cdl_tree.specs.declared.terminal.Terminal.{Terminal}
 use Rattle.cdl_tree.specs.declared.terminal.Terminal.TheVariants as the
@@ -39,7 +39,7 @@ unfoldable pub symbol : List ℕ → Terminal
 symbol = lookup symbols
 
 -- the terminal that a token is, by its sort and its text
-abbrev pub terminal_of : Sort → List ℕ → Terminal
+abbrev pub terminal_of : TokenSort → List ℕ → Terminal
 terminal_of sort.Identifier text = the.Identifier
 terminal_of sort.Integer text = the.Integer
 terminal_of sort.Real text = the.Real

@@ -1,11 +1,10 @@
 // The values of literals.
 ghost use Rattle.std.specs.Prelude.{◌≡◌, ◌≤◌, false, Some, IfOk, IfSome};
+ghost use Rattle.cdl_source.specs.declared.limits.TheConstants.{LARGEST_INTEGER};
 ghost use Rattle.cdl_tree.specs.Literals as spec;
 
-use cdl_source::{OutOfMemory, Text};
+use cdl_source::{LARGEST_INTEGER, OutOfMemory, Text};
 use std::alloc::Global;
-
-const MOST_INTEGER: u32 = 2_147_483_647;
 
 // The number with a digit more, where it is not too great.
 fn with_digit(number: u32, digit: u8) -> Option<u32>
@@ -15,7 +14,7 @@ fn with_digit(number: u32, digit: u8) -> Option<u32>
         return None;
     }
     let next = number as u64 * 10 + (digit - b'0') as u64;
-    if next <= MOST_INTEGER as u64 {
+    if next <= LARGEST_INTEGER as u64 {
         Some(next as u32)
     } else {
         None
@@ -25,7 +24,7 @@ fn with_digit(number: u32, digit: u8) -> Option<u32>
 // The number that the digits write, where it is not too great.
 fn number(text: &[u8]) -> Option<u32>
     ensures value { result ≡ spec.integer_from (Some 0) text.now }
-    ensures limit { IfSome result (λ n. n ≤ spec.most_integer) }
+    ensures limit { IfSome result (λ n. n ≤ LARGEST_INTEGER) }
 {
     let mut number = 0;
     for digit in text {

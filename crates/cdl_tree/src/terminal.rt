@@ -2,7 +2,7 @@
 ghost use Rattle.std.specs.Prelude.{◌≡◌, map};
 ghost use Rattle.cdl_tree.specs.Terminals as spec;
 
-use cdl_source::Sort;
+use cdl_source::TokenSort;
 
 /// The terminals of the grammar.
 #[derive(Clone, Copy, Debug, PartialEq, Eq)]
@@ -167,15 +167,15 @@ fn symbol(text: &[u8]) -> Terminal
 }
 
 /// The terminal that a token is, by its sort and its text. A keyword or a symbol that no production names is `Other`.
-pub fn terminal_of(sort: Sort, text: &[u8]) -> Terminal
+pub fn terminal_of(sort: TokenSort, text: &[u8]) -> Terminal
     ensures { result ≡ spec.terminal_of sort text.now }
 {
     match sort {
-        Sort::Identifier => Terminal::Identifier,
-        Sort::Integer => Terminal::Integer,
-        Sort::Real => Terminal::Real,
-        Sort::Str => Terminal::Str,
-        Sort::Keyword => keyword(text),
-        Sort::Symbol => symbol(text),
+        TokenSort::Identifier => Terminal::Identifier,
+        TokenSort::Integer => Terminal::Integer,
+        TokenSort::Real => Terminal::Real,
+        TokenSort::Str => Terminal::Str,
+        TokenSort::Keyword => keyword(text),
+        TokenSort::Symbol => symbol(text),
     }
 }

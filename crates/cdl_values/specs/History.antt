@@ -1,5 +1,6 @@
 -- Words, ticks and histories.
 use Rattle.std.specs.Prelude.{ℕ, ◌-◌, ◌<◌, ◌≤◌, ◌≡◌, ◌⊎◌, ℤ, pos, negsuc, ◌≤ℤ◌, ◌<ℤ◌, Bool, true, false, cond, not, ◌&&◌, List, [], ◌∷◌, Option, Some, None, IsSome, length, unsigned_abs, nat_le, nat_lt, slice_index_or}
+use Rattle.cdl_source.specs.declared.limits.TheConstants.{LARGEST_INTEGER, LATEST_TIME}
 use Rattle.std.specs.Ordering.{int_eq}
 use Rattle.cdl_decimal.specs.Near.{InRange}
 use Rattle.cdl_values.specs.declared.value.ValueType.{ValueType}
@@ -39,7 +40,7 @@ Meaning = History → ℤ → List ℤ → Option (List ℤ)
 -- a word that is a value of the type
 abbrev pub IsValue : ValueType → ℤ → Type 0
 IsValue Boolean w = (w ≡ pos 0) ⊎ (w ≡ pos 1)
-IsValue Integer w = unsigned_abs w ≤ 2147483647
+IsValue Integer w = unsigned_abs w ≤ LARGEST_INTEGER
 IsValue Real w = InRange w
 IsValue _ w = ⊥
 
@@ -91,7 +92,7 @@ pub record SameDirect (p : Signature) (x y : List ℤ) : Type 0 where
 
 -- a time of a tick: from 0 to 10^13 milliseconds
 abbrev pub IsTime : ℤ → Type 0
-IsTime t = (pos 0 ≤ℤ t) × (t ≤ℤ pos 10000000000000)
+IsTime t = (pos 0 ≤ℤ t) × (t ≤ℤ pos LATEST_TIME)
 
 -- the time is later than each tick of the history
 abbrev pub IsLater : ℤ → History → Type 0
@@ -138,4 +139,4 @@ one (Some z) = Some (z ∷ [])
 
 -- one output that is an Integer, where it is in range
 abbrev pub integer : ℤ → Option (List ℤ)
-integer z = cond (nat_le (unsigned_abs z) 2147483647) (Some (z ∷ [])) None
+integer z = cond (nat_le (unsigned_abs z) LARGEST_INTEGER) (Some (z ∷ [])) None

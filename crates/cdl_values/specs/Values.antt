@@ -1,5 +1,6 @@
 -- Values, arrays of them, and what stands in a list of arrays.
 use Rattle.std.specs.Prelude.{ℕ, ◌*◌, ◌≤◌, ◌≡◌, ℤ, pos, Bool, false, List, [], ◌∷◌, length, map, unsigned_abs, Option, Some, None, slice_get, All}
+use Rattle.cdl_source.specs.declared.limits.TheConstants.{LARGEST_INTEGER}
 use Rattle.cdl_decimal.specs.Near.{InRange}
 use Rattle.cdl_values.specs.declared.value.Array.{Array}
 use Rattle.cdl_values.specs.declared.value.Value.{Value}
@@ -7,18 +8,18 @@ use Rattle.cdl_values.specs.declared.value.Value.TheVariants.{Boolean, Integer, 
 use Rattle.cdl_values.specs.declared.value.ValueType.{ValueType}
 use Rattle.cdl_values.specs.declared.value.ValueType.TheVariants.{Boolean as BooleanType, Integer as IntegerType, Real as RealType, Str as StrType, Enumeration as EnumerationType}
 
--- a value of that type; an Integer has a magnitude of at most 2147483647
+-- a value of that type; an Integer has a magnitude of at most 2,147,483,647
 abbrev pub IsOf : ValueType → Value → Type 0
 IsOf BooleanType (Boolean b) = Unit {0}
-IsOf IntegerType (Integer z) = unsigned_abs z ≤ 2147483647
+IsOf IntegerType (Integer z) = unsigned_abs z ≤ LARGEST_INTEGER
 IsOf RealType (Real z) = InRange z
 IsOf StrType (Str t) = Unit {0}
 IsOf (EnumerationType c) (Enumeration d o) = c ≡ d
 IsOf _ _ = ⊥
 
--- an Integer has a magnitude of at most 2147483647
+-- an Integer has a magnitude of at most 2,147,483,647
 abbrev pub HasIntegers : Value → Type 0
-HasIntegers (Integer z) = unsigned_abs z ≤ 2147483647
+HasIntegers (Integer z) = unsigned_abs z ≤ LARGEST_INTEGER
 HasIntegers _ = Unit {0}
 
 -- so has each Integer in these arrays

@@ -5,6 +5,7 @@ ghost use Rattle.cdl_decimal.specs.Near.{InRange};
 ghost use Rattle.cdl_values.specs.History.{bit, integer, is_on, one, word};
 
 use cdl_decimal::Real;
+use cdl_source::LARGEST_INTEGER;
 
 /// There is no value: a result is out of the range of its type, or not defined.
 #[derive(Clone, Copy, Debug, PartialEq, Eq, Drop)]
@@ -17,8 +18,8 @@ pub fn bit(b: bool) -> i64
     if b { 1 } else { 0 }
 }
 
-/// Whether the word is that of true.
-pub fn is_one(w: i64) -> bool
+// Whether the word is that of true.
+fn is_one(w: i64) -> bool
     ensures { result ≡ is_on w }
 {
     w == 1
@@ -96,13 +97,16 @@ pub fn put_three(words: &mut [i64], a: i64, b: i64, c: i64)
     words[2] = c;
 }
 
+// The greatest magnitude of an Integer.
+const INTEGER_LIMIT: i64 = LARGEST_INTEGER as i64;
+
 /// The one word becomes this Integer. NoValue: it is out of range, and the word stays.
 pub fn put_integer(words: &mut [i64], z: i64) -> Result<(), NoValue>
     requires { length words.old ≡ 1 }
     ensures value { MatchResult result (λ _. integer z ≡ Some words.new) (λ _. integer z ≡ None) }
     ensures stays { OnErr result (words.new ≡ words.old) }
 {
-    if -2_147_483_647 <= z && z <= 2_147_483_647 {
+    if -INTEGER_LIMIT <= z && z <= INTEGER_LIMIT {
         put_one(words, z);
         Ok(())
     } else {

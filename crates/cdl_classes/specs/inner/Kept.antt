@@ -1,8 +1,10 @@
 -- What is kept of the classes of items.
-use Rattle.std.specs.Prelude.{◌≡◌, ℕ, Bool, List, map, length, Option, Some, Vec, slice_get}
+use Rattle.std.specs.Prelude.{◌≡◌, ℕ, Bool, true, List, map, length, Option, Some, Vec, slice_get}
+use Rattle.std.specs.List.{list_all}
 use Rattle.std.specs.declared.alloc.Global.{Global}
 use Rattle.cdl_tree.specs.declared.class.FileTree.{FileTree}
 use Rattle.cdl_tree.specs.declared.class.Item.{Item}
+use Rattle.cdl_tree.specs.FormedFiles.{formed_file}
 use Rattle.cdl_tree.specs.Parts.{items_of}
 use Rattle.cdl_classes.specs.declared.found.Found.{Found}
 use Rattle.cdl_classes.specs.declared.item_classes.Asked.{Asked}
@@ -25,7 +27,8 @@ abbrev pub test_of : Asked → List Declared → ℕ → Item → Bool
 test_of asked.Found = is_missing
 test_of asked.Supported = is_unsupported
 
--- what a table keeps: the rules are kept by the files, and the class of each item is known
+-- what a table keeps: the files are formed and keep the rules, and the class of each item is known
 pub record IsTable (files : List FileTree) (rows : List (Vec (Option Found) Global)) : Type 0 where
+  pub formed : list_all formed_file files ≡ true
   pub unbroken : IsUnbroken (declared files)
   pub classes : AreItemClasses (declared files) rows

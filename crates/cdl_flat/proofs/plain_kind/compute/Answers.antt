@@ -1,10 +1,7 @@
 use Rattle.std.proofs.Common.{◌≡◌, ◌∙◌, [], w64, to_z, of_z, arith}
 use Rattle.std.proofs.lemmas.Int.{to_z-of_z}
-use Rattle.cdl_flat.proofs.PlainFacts.{plain_memoryless, ready, gave, lacked, typed_one}
+use Rattle.cdl_flat.proofs.PlainFacts.{ready, gave, lacked, typed_one}
 use Rattle.cdl_flat.proofs.plain_kind.compute.Goals as goal
-
-pub new-block-requires-clause-memoryless : goal.new-block-requires-clause-memoryless
-new-block-requires-clause-memoryless g c = plain_memoryless c.args.kind c.requires.plain
 
 pub emit-requires-clause-ready : goal.emit-requires-clause-ready
 emit-requires-clause-ready g c = ready c.args.kind _ _ c.args.ins.now c.new-block.ensures.inputs c.no_params.ensures.none c.requires.ins

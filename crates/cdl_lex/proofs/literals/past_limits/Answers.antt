@@ -1,5 +1,5 @@
 use Rattle.std.proofs.Common.{subst, sym, true, false, ◌≡◌, ◌∙◌, get_or}
-use Rattle.cdl_source.specs.declared.place.Sort.TheVariants.{Identifier}
+use Rattle.cdl_source.specs.declared.place.TokenSort.TheVariants.{Identifier}
 use Rattle.cdl_source.specs.declared.place.Token.{Token}
 use Rattle.cdl_lex.specs.Limits.{IsPast, IsPastLimits}
 use Rattle.cdl_lex.proofs.AtTokens.{none_yet, none_more, found_at, none_of_all}

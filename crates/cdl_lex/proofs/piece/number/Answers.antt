@@ -1,6 +1,6 @@
 use Rattle.std.proofs.Common.{◌≡◌, ap, sym, ◌∙◌, if◌then◌else◌}
 use Rattle.std.proofs.lemmas.Bool.{ne_eqb}
-use Rattle.cdl_source.specs.declared.place.Sort.TheVariants.{Integer, Real}
+use Rattle.cdl_source.specs.declared.place.TokenSort.TheVariants.{Integer, Real}
 use Rattle.cdl_lex.specs.Steps.{tail_len, number_sort}
 use Rattle.cdl_lex.proofs.Runs.{to_end}
 use Rattle.cdl_lex.proofs.Pieces.{number_begins}

@@ -1,8 +1,5 @@
-use Rattle.std.proofs.Common.{◌≡◌, ◌-◌}
-use Rattle.cdl_tree.specs.declared.kind.Kind.TheVariants as k
-use Rattle.cdl_reading.specs.Reading.{list_from}
-use Rattle.cdl_parse.specs.Classes.{literal_of, literal_list}
+use Rattle.cdl_parse.specs.Classes.{literal_of}
 use Rattle.cdl_parse.proofs.class.literals.Given as goal
 
-abbrev pub invariant-loop-turn : goal.invariant-loop-turn
-invariant-loop-turn l = literal_list l.fn.most l.fn.tokens ≡ list_from k.Comma (literal_of l.fn.most) (l.fn.most - l._turn) l.found l.tokens
+abbrev pub ghost-list : goal.ghost-list
+ghost-list a = literal_of a.most

@@ -1,4 +1,6 @@
-use Rattle.std.proofs.Common.{◌≡◌, List, [], sym, refl, subst, inl, inr}
+use Rattle.std.specs.List.{list_all}
+use Rattle.cdl_tree.specs.FormedFiles.{formed_file}
+use Rattle.std.proofs.Common.{◌≡◌, true, List, [], sym, refl, subst, inl, inr}
 use Rattle.cdl_source.specs.declared.place.Place.{Place}
 use Rattle.cdl_tree.specs.declared.class.FileTree.{FileTree}
 use Rattle.cdl_scopes.specs.Classes.{Declared, declared}
@@ -8,6 +10,9 @@ use Rattle.cdl_classes.proofs.table.ClassTable.build.Goals as goal
 
 none_over : (broken : List Declared → List Place) (files now : List FileTree) → now ≡ files → broken (declared files) ≡ [] → broken (declared now) ≡ []
 none_over broken files now e h = let P : List FileTree → Type 0 = λ fs. broken (declared fs) ≡ [] in subst P (sym e) h
+
+formed_over : (files now : List FileTree) → now ≡ files → list_all formed_file files ≡ true → list_all formed_file now ≡ true
+formed_over files now e h = subst (λ fs. list_all formed_file fs ≡ true) (sym e) h
 
 pub returns-in-Some-clause-err : goal.returns-in-Some-clause-err
 returns-in-Some-clause-err c =
@@ -24,6 +29,7 @@ pub invariant_of-result : goal.invariant_of-result
 invariant_of-result c =
     let ok = c.in-Ok.ensures.ok in
     record {
+      formed = formed_over c.args.files c.in-Ok.declarations ok.0 c.requires.formed;
       unbroken = record {
         twice = none_over broken_10 c.args.files c.in-Ok.declarations ok.0 ok.1.0;
         taken = none_over broken_11 c.args.files c.in-Ok.declarations ok.0 ok.1.1;

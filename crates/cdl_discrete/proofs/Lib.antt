@@ -1,0 +1,3 @@
+pub mod SampleIntervals
+pub mod Sampling
+pub mod WindowLaws

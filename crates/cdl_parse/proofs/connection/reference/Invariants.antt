@@ -1,8 +1,0 @@
-use Rattle.std.proofs.Common.{◌≡◌, ◌-◌}
-use Rattle.cdl_tree.specs.declared.kind.Kind.TheVariants as k
-use Rattle.cdl_reading.specs.Reading.{list_from}
-use Rattle.cdl_parse.specs.Declarations.{part, reference}
-use Rattle.cdl_parse.proofs.connection.reference.Given as goal
-
-abbrev pub invariant-loop-turn : goal.invariant-loop-turn
-invariant-loop-turn l = reference l.fn.most l.fn.tokens ≡ list_from k.Period (part l.fn.most) (l.fn.most - l._turn) l.found l.tokens

@@ -1,0 +1,4 @@
+pub mod ValueStates
+pub mod RunStates
+pub mod SumStates
+pub mod HoldStates
