@@ -52,7 +52,7 @@ sum_from a (x ∷ xs) =
     let q = sum_from (0 + x) xs in
     omega (arith, p, q)
 
-sum_split : (f : ℕ → ℕ) (xs : List ℕ) (y : ℕ) (ys : List ℕ) → sum (map f (xs ++ y ∷ ys)) ≡ sum (map f xs) + (f y + sum (map f ys))
+pub sum_split : (f : ℕ → ℕ) (xs : List ℕ) (y : ℕ) (ys : List ℕ) → sum (map f (xs ++ y ∷ ys)) ≡ sum (map f xs) + (f y + sum (map f ys))
 sum_split f [] y ys = let p = sum_from (0 + f y) (map f ys) in omega (arith, p)
 sum_split f (x ∷ xs) y ys =
     let r = sum_split f xs y ys in
@@ -66,14 +66,14 @@ place_rises n i top e h =
     let q = ap (λ l. sum (map (network_of n).state_words l)) s.1 ∙ sum_split (network_of n).state_words (elementary_below n i) i s.0 in
     omega (arith, q)
 
-types_length : (n : Net) → length (element_types n) ≡ length n.elements
+pub types_length : (n : Net) → length (element_types n) ≡ length n.elements
 types_length n = map_length (λ (e : NetElement). e.value_type) n.elements
   where
     map_length : {X Y : Type 0} (f : X → Y) (xs : List X) → length (map f xs) ≡ length xs
     map_length f [] = refl
     map_length f (x ∷ xs) = ap suc (map_length f xs)
 
-row_length : {X Y : Type 0} (f : X → Y) (xs : List X) → length (map f xs) ≡ length xs
+pub row_length : {X Y : Type 0} (f : X → Y) (xs : List X) → length (map f xs) ≡ length xs
 row_length f [] = refl
 row_length f (x ∷ xs) = ap suc (row_length f xs)
 
@@ -165,12 +165,12 @@ unmapped f [] j y e = absurd (cc)
 unmapped f (x ∷ xs) zero y e = (x, refl, cc)
 unmapped f (x ∷ xs) (suc j) y e = unmapped f xs j y e
 
-read_mapped : {X Y : Type 0} (f : X → Y) (xs : List X) (k : ℕ) (x : X) (d : Y) → slice_get xs k ≡ Some x → slice_index_or (map f xs) k d ≡ f x
+pub read_mapped : {X Y : Type 0} (f : X → Y) (xs : List X) (k : ℕ) (x : X) (d : Y) → slice_get xs k ≡ Some x → slice_index_or (map f xs) k d ≡ f x
 read_mapped f [] k x d e = absurd (cc)
 read_mapped f (y ∷ xs) zero x d e = let q : y ≡ x = cc in ap f q
 read_mapped f (y ∷ xs) (suc k) x d e = read_mapped f xs k x d e
 
-step_at : {B : Type 0} {m : Blocks B} {n : Net} {bs : List B} {ps : List Node} {actions : List Action} {kinds rows : List ValueType} (s : IsSet m n bs ps actions kinds rows) (j : ℕ) (a : Action) → slice_get actions j ≡ Some a → (o : Step) × (slice_get s.steps j ≡ Some o) × (action_of n o ≡ a)
+pub step_at : {B : Type 0} {m : Blocks B} {n : Net} {bs : List B} {ps : List Node} {actions : List Action} {kinds rows : List ValueType} (s : IsSet m n bs ps actions kinds rows) (j : ℕ) (a : Action) → slice_get actions j ≡ Some a → (o : Step) × (slice_get s.steps j ≡ Some o) × (action_of n o ≡ a)
 step_at {n = n} s j a e = unmapped (action_of n) s.steps j a (ap (λ l. slice_get l j) (sym s.actions_are) ∙ e)
 
 action_at : {B : Type 0} {m : Blocks B} {n : Net} {bs : List B} {ps : List Node} {actions : List Action} {kinds rows : List ValueType} (s : IsSet m n bs ps actions kinds rows) (j : ℕ) (o : Step) → slice_get s.steps j ≡ Some o → slice_get actions j ≡ Some (action_of n o)
@@ -211,6 +211,7 @@ laid {m = m} {n} {bs} {ps} {actions} s = record {
         let i = instance_of s j b.0 p b.1 hp in
         let w : (network_of n).state_words i.0 ≡ state_words i.2.k i.2.v = ap words_at i.2.there ∙ ap words_of i.2.body in
         (i.0, i.1, ap (λ (z : Node). z.state) i.2.node, ap (λ (z : Node). z.width) i.2.node ∙ sym w)
+
     apart : (j k : ℕ) (p q : Node) → j < k → slice_get ps j ≡ Some p → slice_get ps k ≡ Some q → p.state + p.width ≤ q.state
     apart j k p q h hp hq =
         let a = block_of j p hp in
@@ -227,7 +228,7 @@ laid {m = m} {n} {bs} {ps} {actions} s = record {
         omega (arith, r, c, d, e)
 
 -- what actions write and read
-numbers_in : (a n e : ℕ) → a ≤ e → e < a + n → In e (numbers a n)
+pub numbers_in : (a n e : ℕ) → a ≤ e → e < a + n → In e (numbers a n)
 numbers_in a zero e h l = absurd (omega (arith, h, l))
 numbers_in a (suc n) e h l = by_lt a e (λ z. inr (numbers_in (suc a) n e (omega (arith, z)) (omega (arith, l)))) (λ z. inl (omega (arith, h, z)))
 

@@ -4,3 +4,6 @@ pub mod Typing
 pub mod Meeting
 pub mod Running
 pub mod Laying
+pub mod Building
+pub mod Counting
+pub mod Ticking

@@ -125,6 +125,7 @@ meets {B} {m} {n} {bs} {ps} {actions} {kinds} {rows} {past} {u} {w} a x c h = go
         let l = slice_get_within (root_inputs (network_of n)) k x g in
         let s = a.row.size in
         some_value (word u.row k) (value_some ((network_of n).value_type x) (word u.row k) (a.row.each k x g)) ∙ sym (read_word u.row k (omega (arith, l, s)))
+
     out : (i k : ℕ) → HasOrigin (network_of n) x (Out i k) → seen_by w x ≡ given_word k (answer (network_of n) past u.time (seen_by w) i)
     out i k g =
         let t = seat a.set i g.1 in
@@ -148,6 +149,7 @@ meets {B} {m} {n} {bs} {ps} {actions} {kinds} {rows} {past} {u} {w} a x c h = go
         let sz = v.size in
         (omega (arith, sz, kn), value_some ((outputs q.k q.v).value_type k) (word ys k) (v.each k kn)) in
         ap (λ y. seen_by (λ r. y) 0) (at ∙ ap (λ y. out_word y k) (sym an)) ∙ out_value (answer (network_of n) past u.time (seen_by w) i) k ty
+
     go : (c : Origin ℕ ℕ) → HasOrigin (network_of n) x c → seen_by w x ≡ rule (network_of n) past u (seen_by w) c
     go (Row k) g =
         let act = origin_action a.set x (Row k) g in

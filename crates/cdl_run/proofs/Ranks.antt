@@ -20,11 +20,12 @@ pub split_at : (n : Net) (i top : ℕ) → (network_of n).elementary i ≡ true 
 split_at n i top e h =
     let f : ℕ → Bool = (network_of n).elementary in
     let q : top ≡ i + suc (top - (i + 1)) = omega (arith, h) in
-    let z : 0 + i ≡ i = omega arith in
-    (filter f (numbers (suc i) (top - (i + 1))),
-        ap (filter f) (numbers_split 0 top i (suc (top - (i + 1))) q ∙ ap (λ x. numbers 0 i ++ numbers x (suc (top - (i + 1)))) z)
-        ∙ filter_both f (numbers 0 i) (numbers i (suc (top - (i + 1))))
-        ∙ ap (λ b. filter f (numbers 0 i) ++ cond b (i ∷ filter f (numbers (suc i) (top - (i + 1)))) (filter f (numbers (suc i) (top - (i + 1))))) e)
+    let z : 0 + i ≡ i = omega arith in (
+      filter f (numbers (suc i) (top - (i + 1))),
+      ap (filter f) (numbers_split 0 top i (suc (top - (i + 1))) q ∙ ap (λ x. numbers 0 i ++ numbers x (suc (top - (i + 1)))) z)
+          ∙ filter_both f (numbers 0 i) (numbers i (suc (top - (i + 1))))
+          ∙ ap (λ b. filter f (numbers 0 i) ++ cond b (i ∷ filter f (numbers (suc i) (top - (i + 1)))) (filter f (numbers (suc i) (top - (i + 1))))) e,
+    )
 
 pub rank_at : (n : Net) (i top : ℕ) → (network_of n).elementary i ≡ true → i < top → slice_get (elementary_below n top) (rank n i) ≡ Some i
 rank_at n i top e h = let s = split_at n i top e h in ap (λ l. slice_get l (rank n i)) s.1 ∙ seam (elementary_below n i) i s.0

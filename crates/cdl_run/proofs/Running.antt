@@ -113,8 +113,10 @@ stands_next {m = m} {n} {bs} {ps} {ts = ts} u w r a sz va nf st = record {
   where
     past : List (Seen ℕ)
     past = after [] ts r.values
+
     more : after [] (ts ++ u ∷ []) (r.values ++ valuation w ∷ []) ≡ seen u (valuation w) ∷ after [] ts r.values
     more = after_more (network_of n) ts [] r.values u (valuation w) r.runs.0 r.runs.1
+
     block : (i : ℕ) (t : NetInstance) (k : Kind) (v : List Array) → slice_get n.instances i ≡ Some t → t.body ≡ Elementary k v → IsHistory (inputs k v) (meaning k v) (history (network_of n) (seen u (valuation w) ∷ past) i) × Stands k v (state_at n i w) (history (network_of n) (seen u (valuation w) ∷ past) i)
     block i t k v s e =
         let el : (network_of n).elementary i ≡ true = ap is_elementary s ∙ ap is_block e in

@@ -100,15 +100,15 @@ answer_is m n i t k v b p past now w o =
     ∙ ap (λ a. cond (ready w t.first (cond (row k).direct c 0)) (meaning k v h now (words_from w t.first a)) None) o.nin in
     left ∙ by_bool (row k).direct
     (λ d. ap (λ z. strict (values (seen_by w) (cond z (numbers t.first c) [])) (meaning k v h now xs)) d
-        ∙ by_bool (ready w t.first c)
-        (λ r. ap (λ z. strict z (meaning k v h now xs)) (values_ready w t.first c r)
-            ∙ ap (meaning k v h now) (words_known w t.first c (λ j l. ready_values w t.first c j r l))
-            ∙ sym (ap (λ z. cond z (meaning k v h now ys) None) r))
-        (λ r. ap (λ z. strict z (meaning k v h now xs)) (values_missing w t.first c r) ∙ sym (ap (λ z. cond z (meaning k v h now ys) None) r))
-        ∙ sym (ap (λ z. cond (ready w t.first (cond z c 0)) (meaning k v h now ys) None) d))
+    ∙ by_bool (ready w t.first c)
+    (λ r. ap (λ z. strict z (meaning k v h now xs)) (values_ready w t.first c r)
+    ∙ ap (meaning k v h now) (words_known w t.first c (λ j l. ready_values w t.first c j r l))
+    ∙ sym (ap (λ z. cond z (meaning k v h now ys) None) r))
+    (λ r. ap (λ z. strict z (meaning k v h now xs)) (values_missing w t.first c r) ∙ sym (ap (λ z. cond z (meaning k v h now ys) None) r))
+    ∙ sym (ap (λ z. cond (ready w t.first (cond z c 0)) (meaning k v h now ys) None) d))
     (λ d. ap (λ z. strict (values (seen_by w) (cond z (numbers t.first c) [])) (meaning k v h now xs)) d
-        ∙ late_same k v h now xs ys d (words_length (seen_by w) t.first c) (length-words_from w t.first c)
-        ∙ sym (ap (λ z. cond (ready w t.first (cond z c 0)) (meaning k v h now ys) None) d))
+    ∙ late_same k v h now xs ys d (words_length (seen_by w) t.first c) (length-words_from w t.first c)
+    ∙ sym (ap (λ z. cond (ready w t.first (cond z c 0)) (meaning k v h now ys) None) d))
     ∙ sym right
 
 lacks_strict : (o m : Option (List ℤ)) → lacks o m ≡ (has_some o && lacks_one m)
@@ -135,13 +135,13 @@ fault_is m n i t k v b p past u w o el =
     left ∙ lacks_strict (values (seen_by w) (cond (row k).direct (numbers t.first c) [])) (meaning k v h u.time xs)
     ∙ by_bool (row k).direct
     (λ d. ap (λ z. has_some (values (seen_by w) (cond z (numbers t.first c) [])) && lacks_one (meaning k v h u.time xs)) d
-        ∙ by_bool (ready w t.first c)
-        (λ r. ap (λ z. has_some z && lacks_one (meaning k v h u.time xs)) (values_ready w t.first c r)
-            ∙ ap (λ z. lacks_one (meaning k v h u.time z)) (words_known w t.first c (λ j l. ready_values w t.first c j r l))
-            ∙ sym (ap (λ z. z && lacks_one (meaning k v h u.time ys)) r))
-        (λ r. ap (λ z. has_some z && lacks_one (meaning k v h u.time xs)) (values_missing w t.first c r) ∙ sym (ap (λ z. z && lacks_one (meaning k v h u.time ys)) r))
-        ∙ sym (ap (λ z. ready w t.first (cond z c 0) && lacks_one (meaning k v h u.time ys)) d))
+    ∙ by_bool (ready w t.first c)
+    (λ r. ap (λ z. has_some z && lacks_one (meaning k v h u.time xs)) (values_ready w t.first c r)
+    ∙ ap (λ z. lacks_one (meaning k v h u.time z)) (words_known w t.first c (λ j l. ready_values w t.first c j r l))
+    ∙ sym (ap (λ z. z && lacks_one (meaning k v h u.time ys)) r))
+    (λ r. ap (λ z. has_some z && lacks_one (meaning k v h u.time xs)) (values_missing w t.first c r) ∙ sym (ap (λ z. z && lacks_one (meaning k v h u.time ys)) r))
+    ∙ sym (ap (λ z. ready w t.first (cond z c 0) && lacks_one (meaning k v h u.time ys)) d))
     (λ d. ap (λ z. has_some (values (seen_by w) (cond z (numbers t.first c) [])) && lacks_one (meaning k v h u.time xs)) d
-        ∙ ap lacks_one (late_same k v h u.time xs ys d (words_length (seen_by w) t.first c) (length-words_from w t.first c))
-        ∙ sym (ap (λ z. ready w t.first (cond z c 0) && lacks_one (meaning k v h u.time ys)) d))
+    ∙ ap lacks_one (late_same k v h u.time xs ys d (words_length (seen_by w) t.first c) (length-words_from w t.first c))
+    ∙ sym (ap (λ z. ready w t.first (cond z c 0) && lacks_one (meaning k v h u.time ys)) d))
     ∙ sym right

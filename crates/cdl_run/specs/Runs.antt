@@ -44,3 +44,6 @@ pub record IsRow (n : Net) (row : List ℤ) : Type 0 where
 -- behind these ticks the tick has a fault, in every solution, and this instance is the first with one
 abbrev pub HasFault : Net → List Tick → Tick → ℕ → Type 0
 HasFault n ts t i = (vs : List (Valuation ℕ)) → Solves (network_of n) [] (ts ++ t ∷ []) vs → fault_of (network_of n) [] (ts ++ t ∷ []) vs ≡ Some (t.time, i)
+
+abbrev pub tick_at : ℤ → List ℤ → Tick
+tick_at now row = record { time = now; row = row }

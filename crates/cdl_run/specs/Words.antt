@@ -1,8 +1,8 @@
 -- The words of a run: one for each element, and then the state words of each elementary instance in preorder.
-use Rattle.std.specs.Prelude.{ℕ, ◌+◌, ℤ, cond, filter, length, map, sum, List, take, drop, Option, Some, None}
+use Rattle.std.specs.Prelude.{ℕ, ◌+◌, ◌&&◌, ℤ, Bool, cond, filter, not, length, map, sum, List, take, drop, Option, Some, None}
 use Rattle.std.specs.Ordering.{int_eq}
 use Rattle.cdl_values.specs.History.{no_value, word}
-use Rattle.cdl_network.specs.Lists.{numbers}
+use Rattle.cdl_network.specs.Lists.{has_some, numbers}
 use Rattle.cdl_network.specs.Ticks.{Valuation}
 use Rattle.cdl_connect.specs.declared.net.Net.{Net}
 use Rattle.cdl_connect.specs.Nets.{network_of}
@@ -25,3 +25,10 @@ state_place n i = length n.elements + sum (map (network_of n).state_words (eleme
 
 abbrev pub state_at : Net → ℕ → List ℤ → List ℤ
 state_at n i words = take ((network_of n).state_words i) (drop (state_place n i) words)
+
+-- the outputs of the root
+abbrev pub is_root_output : Net → ℕ → Bool
+is_root_output n x = not ((network_of n).input x) && not (has_some ((network_of n).parent ((network_of n).owner x)))
+
+abbrev pub root_outputs : Net → List ℕ
+root_outputs n = filter (is_root_output n) (network_of n).elements

@@ -1,6 +1,7 @@
 //! The runner of a net: one region of words, and one pass over it at each tick.
 #![tactic(auto)]
 
-mod law;
+mod layout;
+mod runner;
 
-pub use law::placeholder;
+pub use runner::{RangeFault, Runner};

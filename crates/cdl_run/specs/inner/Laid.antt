@@ -1,5 +1,5 @@
 -- How the blocks, the windows and the steps of a runner are those of its net.
-use Rattle.std.specs.Prelude.{ℕ, ◌+◌, ◌≡◌, ◌↔◌, ℤ, cond, List, length, map, Some, slice_get}
+use Rattle.std.specs.Prelude.{ℕ, ◌+◌, ◌<◌, ◌≡◌, ◌↔◌, ℤ, cond, List, length, map, get_or, Some, slice_get}
 use Rattle.cdl_values.specs.History.{History}
 use Rattle.cdl_values.specs.declared.value.Array.{Array}
 use Rattle.cdl_values.specs.declared.value.ValueType.{ValueType}
@@ -73,3 +73,14 @@ element_types n = map (λ e. e.value_type) n.elements
 
 abbrev pub row_types : Net → List ValueType
 row_types n = map (network_of n).value_type (root_inputs (network_of n))
+
+-- the numbers of the first i instances among the elementary ones
+pub record AreRanks (n : Net) (i : ℕ) (ranks : List ℕ) : Type 0 where
+  pub size : length ranks ≡ i
+  pub each : (q : ℕ) → q < i → get_or ranks q 0 ≡ rank n q
+
+-- what is made of the first i instances
+pub record AreBuilt {B : Type 0} (m : Blocks B) (n : Net) (i : ℕ) (bs : List B) (ps : List Node) (is ranks : List ℕ) : Type 0 where
+  pub placed : ArePlaced m n i bs ps
+  pub instances : is ≡ elementary_below n i
+  pub numbers : AreRanks n i ranks

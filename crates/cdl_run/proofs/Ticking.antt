@@ -1,0 +1,79 @@
+-- What a pass needs of a runner, and what a runner has of it.
+use Rattle.std.proofs.Common.{ℕ, zero, suc, ◌+◌, ◌-◌, ◌<◌, ◌≤◌, ◌≡◌, refl, sym, ap, ◌∙◌, subst, arith, ℤ, negsuc, ◌<ℤ◌, List, [], ◌∷◌, ◌++◌, length, Option, Some, None, slice_get}
+use Rattle.cdl_values.specs.History.{IsTime, IsValue, word}
+use Rattle.cdl_values.specs.declared.value.ValueType.{ValueType}
+use Rattle.cdl_network.specs.Dependence.{root_inputs}
+use Rattle.cdl_network.specs.Ticks.{Tick, after}
+use Rattle.cdl_connect.specs.declared.net.Net.{Net}
+use Rattle.cdl_connect.specs.Nets.{network_of}
+use Rattle.cdl_pass.specs.declared.net.Action.{Action}
+use Rattle.cdl_pass.specs.declared.net.Node.{Node}
+use Rattle.cdl_pass.specs.Absorb.{Stood}
+use Rattle.cdl_pass.specs.Net.{AllAt, Blocks, Laid, Planned, net_of, sort_at}
+use Rattle.cdl_pass.specs.Tick.{FirstFault, IsTyped, NoFault, Past, RowOf, Solves, Starts}
+use Rattle.cdl_pass.specs.Windows.{state_of}
+use Rattle.cdl_pass.proofs.Passing.{there}
+use Rattle.cdl_run.specs.Words.{elementary_below, state_place}
+use Rattle.cdl_run.specs.Runs.{HasFault, IsRow, RunStands, tick_at}
+use Rattle.cdl_run.specs.inner.Laid.{element_types, row_types}
+use Rattle.cdl_run.specs.inner.Setting.{IsSet, past_at}
+use Rattle.cdl_run.proofs.Laying.{laid, planned, read_mapped, row_length}
+use Rattle.cdl_run.proofs.Meeting.{Now}
+use Rattle.cdl_run.proofs.Running.{faults, histories, stands_first, stands_next, starts}
+
+pub laid_at : {B : Type 0} {m : Blocks B} {n : Net} {bs : List B} {ps : List Node} {actions : List Action} {kinds rows : List ValueType} (size : ℕ) → IsSet m n bs ps actions kinds rows → size ≡ state_place n (length n.instances) → Laid m (net_of bs ps actions kinds rows) size
+laid_at {m = m} {n} {bs} {ps} {actions} {kinds} {rows} size s e =
+    subst (λ z. Laid m (net_of bs ps actions kinds rows) z) (sym e)
+    (subst (λ z. Laid m (net_of bs ps actions kinds z) (state_place n (length n.instances))) (sym s.rows_are)
+    (subst (λ z. Laid m (net_of bs ps actions z (row_types n)) (state_place n (length n.instances))) (sym s.kinds_are) (laid s)))
+
+pub planned_at : {B : Type 0} {m : Blocks B} {n : Net} {bs : List B} {ps : List Node} {actions : List Action} {kinds rows : List ValueType} → IsSet m n bs ps actions kinds rows → Planned (net_of bs ps actions kinds rows)
+planned_at {m = m} {n} {bs} {ps} {actions} {kinds} {rows} s =
+    subst (λ z. Planned (net_of bs ps actions kinds z)) (sym s.rows_are)
+    (subst (λ z. Planned (net_of bs ps actions z (row_types n))) (sym s.kinds_are) (planned s))
+
+row_of : (n : Net) (row : List ℤ) → IsRow n row → RowOf (row_types n) row
+row_of n row r = record {
+  size = r.size ∙ sym (row_length (network_of n).value_type (root_inputs (network_of n)));
+  each = λ k h.
+      let l = row_length (network_of n).value_type (root_inputs (network_of n)) in
+      let x = there (root_inputs (network_of n)) k (omega (arith, h, l)) in
+      subst (λ (t : ValueType). IsValue t (word row k)) (sym (read_mapped (network_of n).value_type (root_inputs (network_of n)) k x.0 ValueType.Boolean x.1)) (r.each k x.0 x.1);
+}
+
+pub row_at : {B : Type 0} {m : Blocks B} {n : Net} {bs : List B} {ps : List Node} {actions : List Action} {kinds rows : List ValueType} (row : List ℤ) → IsSet m n bs ps actions kinds rows → IsRow n row → RowOf rows row
+row_at {n = n} row s r = subst (λ z. RowOf z row) (sym s.rows_are) (row_of n row r)
+
+-- what is known at a tick
+now_at : {B : Type 0} {m : Blocks B} {n : Net} {bs : List B} {ps : List Node} {actions : List Action} {kinds rows : List ValueType} {ts : List Tick} {last : ℤ} {old : List ℤ} (now : ℤ) (row w : List ℤ) → IsSet m n bs ps actions kinds rows → IsRow n row → IsTime now → last <ℤ now → ((e : ℕ) → e < length kinds → IsTyped kinds (word w) e)
+    → (r : RunStands n ts last old) → Solves m (net_of bs ps actions kinds rows) now row (past_at n (after [] ts r.values)) (word w) → Now m n bs ps actions kinds rows (after [] ts r.values) (tick_at now row) (word w)
+now_at {n = n} {kinds = kinds} now row w s ir time later ty r so = record {
+  set = s;
+  row = ir;
+  time = time;
+  typed = λ e h. subst (λ z. IsTyped z (word w) e) s.kinds_are (ty e (let l = types_of n kinds s.kinds_are in omega (arith, h, l)));
+  histories = λ i t k v o. histories now later r i t k v o;
+  solves = so;
+}
+  where
+    types_of : (n : Net) (kinds : List ValueType) → kinds ≡ element_types n → length kinds ≡ length n.elements
+    types_of n kinds e = ap length e ∙ row_length (λ x. x.value_type) n.elements
+
+pub tick_ok : {B : Type 0} {m : Blocks B} {n : Net} {bs : List B} {ps : List Node} {actions : List Action} {kinds rows : List ValueType} {ts : List Tick} {last : ℤ} {old : List ℤ} (now : ℤ) (row w : List ℤ) → IsSet m n bs ps actions kinds rows → IsRow n row → IsTime now → last <ℤ now → length w ≡ state_place n (length n.instances) → ((e : ℕ) → e < length kinds → IsTyped kinds (word w) e) → ((e : ℕ) → e < length kinds → IsValue (sort_at kinds e) (word w e))
+    → (r : RunStands n ts last old) → ((past : Past) → Starts m (net_of bs ps actions kinds rows) now past old → Solves m (net_of bs ps actions kinds rows) now row past (word w)) → ((past : Past) → Starts m (net_of bs ps actions kinds rows) now past old → NoFault m (net_of bs ps actions kinds rows) now past (word w) × Stood m (net_of bs ps actions kinds rows) now past w)
+    → RunStands n (ts ++ tick_at now row ∷ []) now w
+tick_ok {n = n} {kinds = kinds} {ts = ts} now row w s ir time later size ty va r so ok =
+    let st = starts now s later r in
+    let past : Past = past_at n (after [] ts r.values) in
+    let k = ok past st in
+    let l : length kinds ≡ length n.elements = ap length s.kinds_are ∙ row_length (λ x. x.value_type) n.elements in
+    stands_next (tick_at now row) w r (now_at now row w s ir time later ty r (so past st)) (omega (arith, size))
+    (λ e h. subst (λ z. IsValue (sort_at z e) (word w e)) s.kinds_are (va e (omega (arith, h, l)))) k.0 k.1
+
+pub tick_fault : {B : Type 0} {m : Blocks B} {n : Net} {bs : List B} {ps : List Node} {actions : List Action} {kinds rows : List ValueType} {ts : List Tick} {last : ℤ} {old : List ℤ} (now : ℤ) (row w : List ℤ) (j i : ℕ) → IsSet m n bs ps actions kinds rows → IsRow n row → IsTime now → last <ℤ now → ((e : ℕ) → e < length kinds → IsTyped kinds (word w) e)
+    → (r : RunStands n ts last old) → ((past : Past) → Starts m (net_of bs ps actions kinds rows) now past old → Solves m (net_of bs ps actions kinds rows) now row past (word w)) → ((past : Past) → Starts m (net_of bs ps actions kinds rows) now past old → FirstFault m (net_of bs ps actions kinds rows) now past (word w) j)
+    → slice_get (elementary_below n (length n.instances)) j ≡ Some i → HasFault n ts (tick_at now row) i
+tick_fault {n = n} {ts = ts} now row w j i s ir time later ty r so ff e =
+    let st = starts now s later r in
+    let past : Past = past_at n (after [] ts r.values) in
+    faults (tick_at now row) w j i r (now_at now row w s ir time later ty r (so past st)) e (ff past st)
