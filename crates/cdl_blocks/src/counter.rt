@@ -9,6 +9,7 @@ ghost use Rattle.cdl_blocks.specs.Counter.{count_next};
 
 use cdl_kinds::{Elementary, Steps};
 use cdl_memoryless::Whole;
+use cdl_source::LARGEST_INTEGER;
 use cdl_timed::checks::holds_count;
 use cdl_values::NoValue;
 use cdl_values::words::{bit, is_on, put_integer, put_three, read};
@@ -22,13 +23,16 @@ struct Counted {
     reset: bool,
 }
 
+// The greatest magnitude of an Integer.
+const INTEGER_LIMIT: i64 = LARGEST_INTEGER as i64;
+
 // The count, or the one before where it is out of the range of Integers.
 fn kept(count: i64, last: i64) -> i64
     requires { unsigned_abs last ≤ LARGEST_INTEGER }
     ensures small { unsigned_abs result ≤ LARGEST_INTEGER }
     ensures same { unsigned_abs count ≤ LARGEST_INTEGER → result ≡ count }
 {
-    if -2_147_483_647 <= count && count <= 2_147_483_647 {
+    if -INTEGER_LIMIT <= count && count <= INTEGER_LIMIT {
         count
     } else {
         last

@@ -104,11 +104,11 @@ impl<F: Fn(Global, &mut Cursor<'_>, usize) -> Result<Statement, Fault>> Statemen
         ensures { Gives (spec.any_statement self.now.depth (spec.statement self.now.depth) tokens.old) result tokens.new }
     {
         if tokens.sees(Terminal::Connect) {
-            let c = connect(self.alloc, tokens, self.depth)?;
-            Ok(Statement::Connect(c))
+            let connect = connect(self.alloc, tokens, self.depth)?;
+            Ok(Statement::Connect(connect))
         } else {
-            let l = self.a_loop(tokens)?;
-            Ok(Statement::Loop(l))
+            let turns = self.a_loop(tokens)?;
+            Ok(Statement::Loop(turns))
         }
     }
 }

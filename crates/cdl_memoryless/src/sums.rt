@@ -13,6 +13,7 @@ ghost use Rattle.cdl_memoryless.specs.AtOnce.{at_once};
 use crate::memoryless::Memoryless;
 use cdl_decimal::{Real, weighted_sum};
 use cdl_kinds::Params;
+use cdl_source::LARGEST_INTEGER;
 use cdl_values::words::{put_one, put_real, read_real};
 use cdl_values::{NoValue, Value};
 
@@ -71,12 +72,15 @@ fn sum_of_products(factors: &[Value], words: &[i64]) -> i128
     sum
 }
 
+// The greatest magnitude of an Integer.
+const INTEGER_LIMIT: i128 = LARGEST_INTEGER as i128;
+
 // The one word becomes this Integer. NoValue: it is out of range.
 fn put_wide(words: &mut [i64], z: i128) -> Result<(), NoValue>
     requires { length words.old ≡ 1 }
     ensures { MatchResult result (λ _. integer z ≡ Some words.new) (λ _. integer z ≡ None) }
 {
-    if -2_147_483_647 <= z && z <= 2_147_483_647 {
+    if -INTEGER_LIMIT <= z && z <= INTEGER_LIMIT {
         put_one(words, z as i64);
         Ok(())
     } else {

@@ -12,6 +12,7 @@ pub struct Whole {
 
 impl Model for Whole {
     ghost use Rattle.std.specs.Prelude.{ℤ, ◌≤◌, unsigned_abs};
+    ghost use Rattle.cdl_source.specs.declared.limits.TheConstants.{LARGEST_INTEGER};
 
     ghost Value = { ℤ };
 

@@ -4,6 +4,7 @@ ghost use Rattle.cdl_values.specs.declared.value.ValueType.TheVariants.{Boolean,
 ghost use Rattle.cdl_values.specs.History.{AreValues, IsValue, booleans, integers, typed, word};
 ghost use Rattle.cdl_kinds.specs.States.{IsTimeUpTo};
 
+use cdl_source::LARGEST_INTEGER;
 use cdl_values::words::read;
 
 /// Whether the word is a Boolean.
@@ -17,7 +18,7 @@ pub fn is_boolean(w: i64) -> bool
 pub fn is_integer(w: i64) -> bool
     ensures { IsTrue result ↔ IsValue Integer w }
 {
-    w.unsigned_abs() <= 2_147_483_647
+    w.unsigned_abs() <= LARGEST_INTEGER as u64
 }
 
 /// Whether the word is a Real.

@@ -1,7 +1,12 @@
-use Rattle.std.proofs.Common.{◌≡◌, ◌∙◌, [], w64, to_z, of_z, arith}
+use Rattle.std.proofs.Common.{◌≡◌, ◌∙◌, ap, sym, List, [], w64, to_z, of_z, arith}
 use Rattle.std.proofs.lemmas.Int.{to_z-of_z}
-use Rattle.cdl_flat.proofs.PlainFacts.{ready, gave, lacked, typed_one}
+use Rattle.cdl_kinds.specs.StateWords.{state_words}
+use Rattle.cdl_values.specs.declared.value.Array.{Array}
+use Rattle.cdl_flat.proofs.PlainFacts.{ready, gave, lacked, no_words, typed_one}
 use Rattle.cdl_flat.proofs.plain_kind.compute.Goals as goal
+
+pub reset-requires : goal.reset-requires
+reset-requires g c = sym (c.new-block.ensures.width ∙ ap (λ (v : List Array). state_words c.args.kind v) c.no_params.ensures.none ∙ no_words c.args.kind c.requires.plain)
 
 pub emit-requires-clause-ready : goal.emit-requires-clause-ready
 emit-requires-clause-ready g c = ready c.args.kind _ _ c.args.ins.now c.new-block.ensures.inputs c.no_params.ensures.none c.requires.ins
