@@ -11,7 +11,7 @@ use Rattle.cdl_kinds.specs.Conditions.{Keeps}
 use Rattle.cdl_kinds.specs.Ports.{inputs, outputs}
 use Rattle.cdl_kinds.specs.StateWords.{state_words}
 use Rattle.cdl_network.specs.Lists.{In, numbers}
-use Rattle.cdl_network.specs.Dependence.{is_root_input, root_inputs}
+use Rattle.cdl_network.specs.Dependence.{is_of, is_root_input, root_inputs}
 use Rattle.cdl_connect.specs.declared.net.Net.{Net}
 use Rattle.cdl_connect.specs.declared.net.NetInstance.{NetInstance}
 use Rattle.cdl_connect.specs.declared.net.Body.{Body}
@@ -19,7 +19,9 @@ use Rattle.cdl_connect.specs.declared.net.Body.TheVariants.{Composite, Elementar
 use Rattle.cdl_connect.specs.Faults.{IsChecked}
 use Rattle.cdl_connect.specs.Nets.{element, is_block, is_elementary, network_of, words_at, words_of}
 use Rattle.cdl_connect.specs.WellFormed.{IsWellFormed}
-use Rattle.cdl_connect.proofs.Windows.{IsOf, input_at, of_kind, output_at}
+use Rattle.cdl_connect.proofs.Windows.{IsOf, inputs_are, of_kind, outputs_are}
+use Rattle.cdl_network.proofs.Inside.{and_both, kept_true}
+use Rattle.cdl_run.proofs.Laying.{numbers_in}
 use Rattle.cdl_pass.specs.declared.net.Node.{Node}
 use Rattle.cdl_pass.specs.Net.{Blocks}
 use Rattle.cdl_pass.proofs.Ready.{by_lt}
@@ -151,6 +153,23 @@ place_add n i t k v s e =
     let g = ap (λ l. sum (map (network_of n).state_words l)) (below_add n i (elementary_of n i t (Elementary k v) s e)) ∙ sum_split (network_of n).state_words (elementary_below n i) i [] in
     let w : (network_of n).state_words i ≡ state_words k v = ap words_at s ∙ ap words_of e in
     omega (arith, g, w)
+
+-- the inputs of an instance, and its outputs
+input_at : (n : Net) (i : ℕ) (t : NetInstance) (k : Kind) (v : List Array) (x : ℕ) → IsOf n i t k v → t.first ≤ x → x < t.first + (inputs k v).count → (element n x).input ≡ true
+input_at n i t k v x o a b =
+    let m = subst (λ l. In x l) (sym (inputs_are n i t k v o)) (numbers_in t.first (inputs k v).count x a b) in
+    let h = kept_true (λ y. is_of (network_of n) i y && (element n y).input) x (network_of n).elements m in
+    (and_both (is_of (network_of n) i x) (element n x).input h).1
+
+not_true : (b : Bool) → not b ≡ true → b ≡ false
+not_true true e = absurd (false≢true e)
+not_true false e = refl
+
+output_at : (n : Net) (i : ℕ) (t : NetInstance) (k : Kind) (v : List Array) (x : ℕ) → IsOf n i t k v → t.first + (inputs k v).count ≤ x → x < t.first + (inputs k v).count + (outputs k v).count → (element n x).input ≡ false
+output_at n i t k v x o a b =
+    let m = subst (λ l. In x l) (sym (outputs_are n i t k v o)) (numbers_in (t.first + (inputs k v).count) (outputs k v).count x a b) in
+    let h = kept_true (λ y. is_of (network_of n) i y && not (element n y).input) x (network_of n).elements m in
+    not_true (element n x).input (and_both (is_of (network_of n) i x) (not (element n x).input) h).1
 
 -- the inputs of an instance of a kind end where the first output stands, or with its elements
 pub inputs_end : (n : Net) (i : ℕ) (t : NetInstance) (k : Kind) (v : List Array) (j : ℕ) → IsChecked n → IsWellFormed n → slice_get n.instances i ≡ Some t → t.body ≡ Elementary k v → ((l : ℕ) → l < j → (element n (t.first + l)).input ≡ true) → j ≤ t.count → (j < t.count → (element n (t.first + j)).input ≡ false) → j ≡ (inputs k v).count

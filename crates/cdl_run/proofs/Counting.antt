@@ -64,39 +64,39 @@ emits (Action.Input k x ∷ rest) = emits rest
 emits (Action.Copy s x ∷ rest) = emits rest
 emits (Action.Emit j ∷ rest) = j ∷ emits rest
 
-spent_emits : (as : List Action) → spent_in as (length as) ≡ length (emits as)
+spent_emits : (acts : List Action) → spent_in acts (length acts) ≡ length (emits acts)
 unfolding emits
 spent_emits [] = refl
-spent_emits (Action.Input k x ∷ as) = let r = spent_emits as in omega (arith, r)
-spent_emits (Action.Copy s x ∷ as) = let r = spent_emits as in omega (arith, r)
-spent_emits (Action.Emit j ∷ as) = let r = spent_emits as in omega (arith, r)
+spent_emits (Action.Input k x ∷ acts) = let r = spent_emits acts in omega (arith, r)
+spent_emits (Action.Copy s x ∷ acts) = let r = spent_emits acts in omega (arith, r)
+spent_emits (Action.Emit j ∷ acts) = let r = spent_emits acts in omega (arith, r)
 
-emitted_at : (as : List Action) (j : ℕ) → In j (emits as) → (q : ℕ) × (slice_get as q ≡ Some (Action.Emit j))
+emitted_at : (acts : List Action) (j : ℕ) → In j (emits acts) → (q : ℕ) × (slice_get acts q ≡ Some (Action.Emit j))
 unfolding emits
 emitted_at [] j i = absurd i
-emitted_at (Action.Input k x ∷ as) j i = let r = emitted_at as j i in (suc r.0, r.1)
-emitted_at (Action.Copy s x ∷ as) j i = let r = emitted_at as j i in (suc r.0, r.1)
-emitted_at (Action.Emit k ∷ as) j (inl e) = (0, ap (λ z. Some (Action.Emit z)) (sym e))
-emitted_at (Action.Emit k ∷ as) j (inr i) = let r = emitted_at as j i in (suc r.0, r.1)
+emitted_at (Action.Input k x ∷ acts) j i = let r = emitted_at acts j i in (suc r.0, r.1)
+emitted_at (Action.Copy s x ∷ acts) j i = let r = emitted_at acts j i in (suc r.0, r.1)
+emitted_at (Action.Emit k ∷ acts) j (inl e) = (0, ap (λ z. Some (Action.Emit z)) (sym e))
+emitted_at (Action.Emit k ∷ acts) j (inr i) = let r = emitted_at acts j i in (suc r.0, r.1)
 
-is_emitted : (as : List Action) (q j : ℕ) → slice_get as q ≡ Some (Action.Emit j) → In j (emits as)
+is_emitted : (acts : List Action) (q j : ℕ) → slice_get acts q ≡ Some (Action.Emit j) → In j (emits acts)
 unfolding emits
 is_emitted [] q j e = absurd (cc)
-is_emitted (Action.Input k x ∷ as) zero j e = absurd (cc)
-is_emitted (Action.Input k x ∷ as) (suc q) j e = is_emitted as q j e
-is_emitted (Action.Copy s x ∷ as) zero j e = absurd (cc)
-is_emitted (Action.Copy s x ∷ as) (suc q) j e = is_emitted as q j e
-is_emitted (Action.Emit k ∷ as) zero j e = let z : k ≡ j = cc in inl (sym z)
-is_emitted (Action.Emit k ∷ as) (suc q) j e = inr (is_emitted as q j e)
+is_emitted (Action.Input k x ∷ acts) zero j e = absurd (cc)
+is_emitted (Action.Input k x ∷ acts) (suc q) j e = is_emitted acts q j e
+is_emitted (Action.Copy s x ∷ acts) zero j e = absurd (cc)
+is_emitted (Action.Copy s x ∷ acts) (suc q) j e = is_emitted acts q j e
+is_emitted (Action.Emit k ∷ acts) zero j e = let z : k ≡ j = cc in inl (sym z)
+is_emitted (Action.Emit k ∷ acts) (suc q) j e = inr (is_emitted acts q j e)
 
-emits_apart : (as : List Action) → ((i k : ℕ) (o : Action) → i < k → slice_get as i ≡ Some o → slice_get as k ≡ Some o → ⊥) → Apart (emits as)
+emits_apart : (acts : List Action) → ((i k : ℕ) (o : Action) → i < k → slice_get acts i ≡ Some o → slice_get acts k ≡ Some o → ⊥) → Apart (emits acts)
 unfolding emits
 emits_apart [] f = tt
-emits_apart (Action.Input k x ∷ as) f = emits_apart as (λ i l o h. f (suc i) (suc l) o (omega (arith, h)))
-emits_apart (Action.Copy s x ∷ as) f = emits_apart as (λ i l o h. f (suc i) (suc l) o (omega (arith, h)))
-emits_apart (Action.Emit j ∷ as) f = (
-  λ i. let r = emitted_at as j i in f 0 (suc r.0) (Action.Emit j) (omega arith) refl r.1,
-  emits_apart as (λ i l o h. f (suc i) (suc l) o (omega (arith, h))),
+emits_apart (Action.Input k x ∷ acts) f = emits_apart acts (λ i l o h. f (suc i) (suc l) o (omega (arith, h)))
+emits_apart (Action.Copy s x ∷ acts) f = emits_apart acts (λ i l o h. f (suc i) (suc l) o (omega (arith, h)))
+emits_apart (Action.Emit j ∷ acts) f = (
+  λ i. let r = emitted_at acts j i in f 0 (suc r.0) (Action.Emit j) (omega arith) refl r.1,
+  emits_apart acts (λ i l o h. f (suc i) (suc l) o (omega (arith, h))),
 )
 
 same_rank : (n : Net) (i j : ℕ) → (network_of n).elementary i ≡ true → (network_of n).elementary j ≡ true → rank n i ≡ rank n j → i ≡ j

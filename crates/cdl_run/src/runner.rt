@@ -33,7 +33,7 @@ pub struct RangeFault {
 
 // What a runner has beside its words. It stays as it was made.
 #[derive(Drop)]
-struct Fixed {
+struct Parts {
     plan: Plan,
     blocks: Vec<AnyBlock>,
     nodes: Vec<Node>,
@@ -50,7 +50,7 @@ struct Fixed {
 /// has answered.
 #[derive(Drop)]
 pub struct Runner {
-    fixed: Fixed,
+    parts: Parts,
     region: Region,
     last: i64,
     fault: Option<RangeFault>,
@@ -64,14 +64,14 @@ impl Model for Runner {
 
     ghost Value = { Running };
 
-    ghost view = { λ r. record { net = r.fixed.plan.net; words = r.region.words; last = r.last; fault = option_map (λ f. f.instance) r.fault } };
+    ghost view = { λ r. record { net = r.parts.plan.net; words = r.region.words; last = r.last; fault = option_map (λ f. f.instance) r.fault } };
 
-    ghost invariant = { λ r. IsFixed (blocks_of ⟦<AnyBlock as Elementary>⟧.inputs ⟦<AnyBlock as Elementary>⟧.results ⟦<AnyBlock as Elementary>⟧.width ⟦<AnyBlock as Elementary>⟧.meaning ⟦<AnyBlock as Elementary>⟧.stands ⟦<AnyBlock as Elementary>⟧.is_sound) r.fixed.plan.net r.fixed.blocks.items r.fixed.nodes.items r.fixed.instances.items r.fixed.actions.items r.fixed.types.items r.fixed.rows.items r.fixed.outputs.items
-        × IsReady (blocks_of ⟦<AnyBlock as Elementary>⟧.inputs ⟦<AnyBlock as Elementary>⟧.results ⟦<AnyBlock as Elementary>⟧.width ⟦<AnyBlock as Elementary>⟧.meaning ⟦<AnyBlock as Elementary>⟧.stands ⟦<AnyBlock as Elementary>⟧.is_sound) r.fixed.plan.net r.fixed.blocks.items r.fixed.nodes.items r.fixed.actions.items r.fixed.types.items r.fixed.rows.items r.region.words r.last (option_map (λ f. f.instance) r.fault) };
+    ghost invariant = { λ r. IsFixed (blocks_of ⟦<AnyBlock as Elementary>⟧.inputs ⟦<AnyBlock as Elementary>⟧.results ⟦<AnyBlock as Elementary>⟧.width ⟦<AnyBlock as Elementary>⟧.meaning ⟦<AnyBlock as Elementary>⟧.stands ⟦<AnyBlock as Elementary>⟧.is_sound) r.parts.plan.net r.parts.blocks.items r.parts.nodes.items r.parts.instances.items r.parts.actions.items r.parts.types.items r.parts.rows.items r.parts.outputs.items
+        × IsReady (blocks_of ⟦<AnyBlock as Elementary>⟧.inputs ⟦<AnyBlock as Elementary>⟧.results ⟦<AnyBlock as Elementary>⟧.width ⟦<AnyBlock as Elementary>⟧.meaning ⟦<AnyBlock as Elementary>⟧.stands ⟦<AnyBlock as Elementary>⟧.is_sound) r.parts.plan.net r.parts.blocks.items r.parts.nodes.items r.parts.actions.items r.parts.types.items r.parts.rows.items r.region.words r.last (option_map (λ f. f.instance) r.fault) };
 }
 
 // What is made of a plan, and how many words it needs.
-fn fixed(alloc: Global, plan: Plan) -> Result<(Fixed, usize), OutOfMemory>
+fn parts_of(alloc: Global, plan: Plan) -> Result<(Parts, usize), OutOfMemory>
     requires { IsWellFormed plan.net }
     ensures net { IfOk result (λ f. f.0.plan ≡ plan) }
     ensures fixed { IfOk result (λ f. IsFixed (blocks_of ⟦<AnyBlock as Elementary>⟧.inputs ⟦<AnyBlock as Elementary>⟧.results ⟦<AnyBlock as Elementary>⟧.width ⟦<AnyBlock as Elementary>⟧.meaning ⟦<AnyBlock as Elementary>⟧.stands ⟦<AnyBlock as Elementary>⟧.is_sound) plan.net f.0.blocks.items f.0.nodes.items f.0.instances.items f.0.actions.items f.0.types.items f.0.rows.items f.0.outputs.items) }
@@ -83,7 +83,7 @@ fn fixed(alloc: Global, plan: Plan) -> Result<(Fixed, usize), OutOfMemory>
     let types = types_in(alloc, net)?;
     let rows = rows_in(alloc, net)?;
     let outputs = outputs_in(alloc, net)?;
-    let fixed = Fixed {
+    let parts = Parts {
         plan,
         blocks: blocks.blocks,
         nodes: blocks.nodes,
@@ -93,7 +93,7 @@ fn fixed(alloc: Global, plan: Plan) -> Result<(Fixed, usize), OutOfMemory>
         rows,
         outputs,
     };
-    Ok((fixed, size))
+    Ok((parts, size))
 }
 
 impl Runner {
@@ -104,18 +104,18 @@ impl Runner {
         ensures stands { IfOk result (λ r. Stands r []) }
         ensures size { IfOk result (λ r. length r.words ≡ word_count (network_of plan.net)) }
     {
-        let (fixed, size) = fixed(alloc, plan)?;
+        let (parts, size) = parts_of(alloc, plan)?;
         let mut region = Region::new(alloc, size)?;
         reset_all(
-            &fixed.blocks,
-            &fixed.nodes,
-            &fixed.actions,
-            &fixed.types,
-            &fixed.rows,
+            &parts.blocks,
+            &parts.nodes,
+            &parts.actions,
+            &parts.types,
+            &parts.rows,
             region.all_mut(),
         );
         Ok(Runner {
-            fixed,
+            parts,
             region,
             last: -1,
             fault: None,
@@ -144,14 +144,14 @@ impl Runner {
         if let Some(fault) = self.fault {
             return Err(fault);
         }
-        let fixed = &self.fixed;
+        let parts = &self.parts;
         let words = self.region.all_mut();
         match tick_all(
-            &fixed.blocks,
-            &fixed.nodes,
-            &fixed.actions,
-            &fixed.types,
-            &fixed.rows,
+            &parts.blocks,
+            &parts.nodes,
+            &parts.actions,
+            &parts.types,
+            &parts.rows,
             row,
             words,
             now,
@@ -163,7 +163,7 @@ impl Runner {
             }
             Err(fault) => {
                 let fault = RangeFault {
-                    instance: fixed.instances[fault.block],
+                    instance: parts.instances[fault.block],
                 };
                 self.fault = Some(fault);
                 Err(fault)
@@ -176,7 +176,7 @@ impl Runner {
         requires { i < length (root_outputs self.now.net) }
         ensures { result ≡ word self.now.words (get_or (root_outputs self.now.net) i 0) }
     {
-        self.region.all()[self.fixed.outputs[i] as usize]
+        self.region.all()[self.parts.outputs[i] as usize]
     }
 
     /// The path of an instance. It takes no memory.
@@ -184,7 +184,7 @@ impl Runner {
         requires { instance < length self.now.net.instances }
         ensures { (t : InstanceOf) → slice_get self.now.net.instances instance ≡ Some t → result.now ≡ t.path }
     {
-        &self.fixed.plan.net().net().instances.items()[instance as usize].path
+        &self.parts.plan.net().net().instances.items()[instance as usize].path
     }
 
     /// Its words: one for each element, and then the state words of each elementary instance in preorder. It takes no memory.
