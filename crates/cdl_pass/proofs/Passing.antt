@@ -323,3 +323,10 @@ found_none x e = ap found e
 pub none_found : (x : Option ℕ) → found x ≡ false → x ≡ None
 none_found None e = refl
 none_found (Some l) e = absurd (false≢true (sym e))
+
+-- the least fault is one of a block
+pub lesser_inside : (least : Option ℕ) (j k : ℕ) (fault : Bool) → IfSome least (λ x. x < k) → j < k → IfSome (cond fault (lesser_of least j) least) (λ x. x < k)
+lesser_inside None j k true f h = h
+lesser_inside None j k false f h = tt
+lesser_inside (Some l) j k true f h = by_bool (nat_le l j) (λ e. rw e f) (λ e. rw e h)
+lesser_inside (Some l) j k false f h = f

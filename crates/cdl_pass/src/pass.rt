@@ -134,6 +134,7 @@ fn advance<B: Elementary, L: Ledger>(
     requires laid { Laid (blocks_of B.inputs B.results B.width B.meaning B.stands B.is_sound) (net_of blocks.now nodes.now _actions.now _kinds.now _rows.now) (length words.old) }
     requires names { Names (net_of blocks.now nodes.now _actions.now _kinds.now _rows.now) action }
     requires time { IsTime now }
+    requires inside { IfSome least (λ j. j < length nodes.now) }
     requires row { RowOf _rows.now row.now }
     requires typed { (e : ℕ) → Reads nodes.now action e → IsTyped _kinds.now (word words.old) e }
     requires whole { least ≡ None → (e : ℕ) → Reads nodes.now action e → IsValue (sort_at _kinds.now e) (word words.old e) }
@@ -141,6 +142,7 @@ fn advance<B: Elementary, L: Ledger>(
     ensures size { length words.new ≡ length words.old }
     ensures few { steps.new ≤ steps.old + spent action }
     ensures step { least ≡ None → steps.new ≡ steps.old + spent action }
+    ensures inside { IfSome result (λ j. j < length nodes.now) }
     ensures plain { result ≡ None → least ≡ None }
     ensures others { (e : ℕ) → (Writes nodes.now action e → ⊥) → word words.new e ≡ word words.old e }
     ensures states { drop (length _kinds.now) words.new ≡ drop (length _kinds.now) words.old }
@@ -195,6 +197,7 @@ pub fn emit_all<B: Elementary, L: Ledger>(
     ensures size { length words.new ≡ length words.old }
     ensures few { steps.new ≤ steps.old + spent_in actions.now (length actions.now) }
     ensures step { result ≡ None → steps.new ≡ steps.old + spent_in actions.now (length actions.now) }
+    ensures inside { IfSome result (λ j. j < length nodes.now) }
     ensures states { drop (length kinds.now) words.new ≡ drop (length kinds.now) words.old }
     ensures typed { (e : ℕ) → e < length kinds.now → IsTyped kinds.now (word words.new) e }
     ensures values { result ≡ None → (e : ℕ) → e < length kinds.now → IsValue (sort_at kinds.now e) (word words.new e) }

@@ -40,6 +40,7 @@ pub fn tick_all<B: Elementary, L: Ledger>(
     ensures size { length words.new ≡ length words.old }
     ensures few { steps.new ≤ steps.old + spent_in actions.now (length actions.now) }
     ensures step { OnOk result (steps.new ≡ steps.old + spent_in actions.now (length actions.now)) }
+    ensures inside { IfErr result (λ f. f.block < length nodes.now) }
     ensures sound { OnOk result (AllAt (net_of blocks.now nodes.now actions.now kinds.now rows.now) (λ j b p. B.is_sound b (state_of p words.new) now)) }
     ensures states { OnErr result (drop (length kinds.now) words.new ≡ drop (length kinds.now) words.old) }
     ensures typed { (e : ℕ) → e < length kinds.now → IsTyped kinds.now (word words.new) e }

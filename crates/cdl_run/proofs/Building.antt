@@ -1,14 +1,18 @@
 -- The lists of a runner, made item by item.
-use Rattle.std.proofs.Common.{ℕ, zero, suc, ◌+◌, ◌-◌, ◌<◌, ◌≤◌, ◌≡◌, ◌⊎◌, ◌&&◌, inl, inr, refl, sym, ap, ◌∙◌, subst, arith, Bool, true, false, cond, not, List, [], ◌∷◌, ◌++◌, filter, length, map, sum, take, get_or, Option, Some, None, slice_get}
+use Rattle.std.proofs.Common.{ℕ, zero, suc, ◌+◌, ◌-◌, ◌<◌, ◌≤◌, ◌≡◌, ◌⊎◌, ◌&&◌, inl, inr, refl, sym, ap, ◌∙◌, subst, arith, ℤ, Bool, true, false, cond, not, List, [], ◌∷◌, ◌++◌, filter, length, map, sum, take, get_or, Option, Some, None, slice_get}
 use Rattle.std.proofs.Math.Seq.{take-suc}
 use Rattle.std.proofs.lemmas.Bool.{false≢true}
 use Rattle.std.proofs.lemmas.List.{map-append}
 use Rattle.std.proofs.lemmas.Option.{slice_get_within}
+use Rattle.std.specs.Prelude.{◌↔◌}
+use Rattle.cdl_values.specs.History.{History}
 use Rattle.cdl_values.specs.declared.value.Array.{Array}
 use Rattle.cdl_values.specs.declared.value.ValueType.{ValueType}
 use Rattle.cdl_kinds.specs.declared.kind.Kind.{Kind}
 use Rattle.cdl_kinds.specs.Conditions.{Keeps}
 use Rattle.cdl_kinds.specs.Ports.{inputs, outputs}
+use Rattle.cdl_kinds.specs.Meanings.{meaning}
+use Rattle.cdl_kinds.specs.States.{IsSound, Stands}
 use Rattle.cdl_kinds.specs.StateWords.{state_words}
 use Rattle.cdl_network.specs.Lists.{In, numbers}
 use Rattle.cdl_network.specs.Dependence.{is_of, is_root_input, root_inputs}
@@ -198,3 +202,6 @@ rows_next f g t xs xs2 a e = e ∙ ap (λ l. cond (f t) (l ++ g t ∷ []) l) a �
     by_cases : (b : Bool) → cond b (map g (filter f (numbers 0 t)) ++ g t ∷ []) (map g (filter f (numbers 0 t))) ≡ map g (cond b (filter f (numbers 0 t) ++ t ∷ []) (filter f (numbers 0 t)))
     by_cases true = sym (map-append g (filter f (numbers 0 t)) (t ∷ []))
     by_cases false = refl
+
+pub block_is : {B : Type 0} (m : Blocks B) (b : B) (k : Kind) (v w : List Array) → v ≡ w → m.inputs b ≡ inputs k v → m.results b ≡ outputs k v → m.width b ≡ state_words k v → m.meaning b ≡ meaning k v → ((state : List ℤ) (h : History) → m.stands b state h ↔ Stands k v state h) → ((state : List ℤ) (last : ℤ) → m.sound b state last ↔ IsSound k v state last) → IsBlock m b k w
+block_is m b k v w e i r d f s t = subst (λ z. IsBlock m b k z) e (record { inputs = i; results = r; width = d; meaning = f; stands = s; sound = t })

@@ -10,7 +10,7 @@ ghost use Rattle.cdl_connect.specs.declared.net.Body.TheVariants.{Elementary as 
 ghost use Rattle.cdl_connect.specs.Faults.{IsChecked};
 ghost use Rattle.cdl_connect.specs.Nets.{network_of};
 ghost use Rattle.cdl_connect.specs.WellFormed.{IsWellFormed};
-ghost use Rattle.cdl_pass.specs.Net.{blocks_of};
+ghost use Rattle.cdl_run.specs.inner.AnyBlocks.{any_blocks};
 ghost use Rattle.cdl_schedule.specs.declared.steps.Step.{Step as StepOf};
 ghost use Rattle.cdl_schedule.specs.Passes.{IsStep};
 ghost use Rattle.cdl_run.specs.Words.{is_root_output, root_outputs, state_place};
@@ -18,7 +18,7 @@ ghost use Rattle.cdl_run.specs.inner.Laid.{AreBuilt, AreRanks, IsBlock, action_o
 
 use cdl_blocks::AnyBlock;
 use cdl_connect::{Body, Net, NetInstance};
-use cdl_kinds::{Elementary, Kind, Params, state_words};
+use cdl_kinds::{Kind, Params, state_words};
 use cdl_pass::{Action, Node};
 use cdl_schedule::{Step, is_direct_kind};
 use cdl_source::OutOfMemory;
@@ -87,7 +87,7 @@ fn node(
 
 fn block(alloc: Global, kind: Kind, params: &Params) -> Result<AnyBlock, OutOfMemory>
     requires { Keeps kind params.now }
-    ensures { IfOk result (λ b. IsBlock (blocks_of ⟦<AnyBlock as Elementary>⟧.inputs ⟦<AnyBlock as Elementary>⟧.results ⟦<AnyBlock as Elementary>⟧.width ⟦<AnyBlock as Elementary>⟧.meaning ⟦<AnyBlock as Elementary>⟧.stands ⟦<AnyBlock as Elementary>⟧.is_sound) b kind params.now) }
+    ensures { IfOk result (λ b. IsBlock any_blocks b kind params.now) }
 {
     Ok(AnyBlock::new(kind, params.copy(alloc)?))
 }
@@ -103,9 +103,9 @@ fn add_instance(
     requires checked { IsChecked net.now }
     requires formed { IsWellFormed net.now }
     requires inside { i < length net.now.instances }
-    requires built { AreBuilt (blocks_of ⟦<AnyBlock as Elementary>⟧.inputs ⟦<AnyBlock as Elementary>⟧.results ⟦<AnyBlock as Elementary>⟧.width ⟦<AnyBlock as Elementary>⟧.meaning ⟦<AnyBlock as Elementary>⟧.stands ⟦<AnyBlock as Elementary>⟧.is_sound) net.now i blocks.old.blocks.items blocks.old.nodes.items blocks.old.instances.items blocks.old.ranks.items }
+    requires built { AreBuilt any_blocks net.now i blocks.old.blocks.items blocks.old.nodes.items blocks.old.instances.items blocks.old.ranks.items }
     requires place { place ≡ state_place net.now i }
-    ensures built { OnOk result (AreBuilt (blocks_of ⟦<AnyBlock as Elementary>⟧.inputs ⟦<AnyBlock as Elementary>⟧.results ⟦<AnyBlock as Elementary>⟧.width ⟦<AnyBlock as Elementary>⟧.meaning ⟦<AnyBlock as Elementary>⟧.stands ⟦<AnyBlock as Elementary>⟧.is_sound) net.now (i + 1) blocks.new.blocks.items blocks.new.nodes.items blocks.new.instances.items blocks.new.ranks.items) }
+    ensures built { OnOk result (AreBuilt any_blocks net.now (i + 1) blocks.new.blocks.items blocks.new.nodes.items blocks.new.instances.items blocks.new.ranks.items) }
     ensures place { IfOk result (λ p. p ≡ state_place net.now (i + 1)) }
 {
     let instance = &net.instances.items()[i];
@@ -126,7 +126,7 @@ fn add_instance(
 pub(crate) fn blocks_in(alloc: Global, net: &Net) -> Result<(Blocks, usize), OutOfMemory>
     requires checked { IsChecked net.now }
     requires formed { IsWellFormed net.now }
-    ensures built { IfOk result (λ r. AreBuilt (blocks_of ⟦<AnyBlock as Elementary>⟧.inputs ⟦<AnyBlock as Elementary>⟧.results ⟦<AnyBlock as Elementary>⟧.width ⟦<AnyBlock as Elementary>⟧.meaning ⟦<AnyBlock as Elementary>⟧.stands ⟦<AnyBlock as Elementary>⟧.is_sound) net.now (length net.now.instances) r.0.blocks.items r.0.nodes.items r.0.instances.items r.0.ranks.items) }
+    ensures built { IfOk result (λ r. AreBuilt any_blocks net.now (length net.now.instances) r.0.blocks.items r.0.nodes.items r.0.instances.items r.0.ranks.items) }
     ensures size { IfOk result (λ r. r.1 ≡ state_place net.now (length net.now.instances)) }
 {
     let mut blocks = Blocks {

@@ -7,7 +7,7 @@ ghost use Rattle.cdl_network.specs.Ticks.{Tick};
 ghost use Rattle.cdl_connect.specs.declared.net.NetInstance.{NetInstance as InstanceOf};
 ghost use Rattle.cdl_connect.specs.Nets.{network_of};
 ghost use Rattle.cdl_connect.specs.WellFormed.{IsWellFormed};
-ghost use Rattle.cdl_pass.specs.Net.{blocks_of};
+ghost use Rattle.cdl_run.specs.inner.AnyBlocks.{any_blocks};
 ghost use Rattle.cdl_run.specs.Words.{root_outputs, state_place};
 ghost use Rattle.cdl_run.specs.Runs.{HasFault, IsRow, tick_at};
 ghost use Rattle.cdl_run.specs.Running.{Stands};
@@ -15,7 +15,7 @@ ghost use Rattle.cdl_run.specs.inner.Ready.{IsFixed};
 
 use crate::layout::{actions_in, blocks_in, outputs_in, rows_in, types_in};
 use cdl_blocks::AnyBlock;
-use cdl_kinds::{Elementary, Steps};
+use cdl_kinds::Steps;
 use cdl_pass::{Action, Node, reset_all, tick_all};
 use cdl_pool::Region;
 use cdl_schedule::Plan;
@@ -58,7 +58,7 @@ pub struct Runner {
 
 impl Model for Runner {
     ghost use Rattle.std.specs.Option.{option_map};
-    ghost use Rattle.cdl_pass.specs.Net.{blocks_of};
+    ghost use Rattle.cdl_run.specs.inner.AnyBlocks.{any_blocks};
     ghost use Rattle.cdl_run.specs.Running.{Running};
     ghost use Rattle.cdl_run.specs.inner.Ready.{IsFixed, IsReady};
 
@@ -66,15 +66,15 @@ impl Model for Runner {
 
     ghost view = { λ r. record { net = r.parts.plan.net; words = r.region.words; last = r.last; fault = option_map (λ f. f.instance) r.fault } };
 
-    ghost invariant = { λ r. IsFixed (blocks_of ⟦<AnyBlock as Elementary>⟧.inputs ⟦<AnyBlock as Elementary>⟧.results ⟦<AnyBlock as Elementary>⟧.width ⟦<AnyBlock as Elementary>⟧.meaning ⟦<AnyBlock as Elementary>⟧.stands ⟦<AnyBlock as Elementary>⟧.is_sound) r.parts.plan.net r.parts.blocks.items r.parts.nodes.items r.parts.instances.items r.parts.actions.items r.parts.types.items r.parts.rows.items r.parts.outputs.items
-        × IsReady (blocks_of ⟦<AnyBlock as Elementary>⟧.inputs ⟦<AnyBlock as Elementary>⟧.results ⟦<AnyBlock as Elementary>⟧.width ⟦<AnyBlock as Elementary>⟧.meaning ⟦<AnyBlock as Elementary>⟧.stands ⟦<AnyBlock as Elementary>⟧.is_sound) r.parts.plan.net r.parts.blocks.items r.parts.nodes.items r.parts.actions.items r.parts.types.items r.parts.rows.items r.region.words r.last (option_map (λ f. f.instance) r.fault) };
+    ghost invariant = { λ r. IsFixed any_blocks r.parts.plan.net r.parts.blocks.items r.parts.nodes.items r.parts.instances.items r.parts.actions.items r.parts.types.items r.parts.rows.items r.parts.outputs.items
+        × IsReady any_blocks r.parts.plan.net r.parts.blocks.items r.parts.nodes.items r.parts.actions.items r.parts.types.items r.parts.rows.items r.region.words r.last (option_map (λ f. f.instance) r.fault) };
 }
 
 // What is made of a plan, and how many words it needs.
 fn parts_of(alloc: Global, plan: Plan) -> Result<(Parts, usize), OutOfMemory>
     requires { IsWellFormed plan.net }
     ensures net { IfOk result (λ f. f.0.plan ≡ plan) }
-    ensures fixed { IfOk result (λ f. IsFixed (blocks_of ⟦<AnyBlock as Elementary>⟧.inputs ⟦<AnyBlock as Elementary>⟧.results ⟦<AnyBlock as Elementary>⟧.width ⟦<AnyBlock as Elementary>⟧.meaning ⟦<AnyBlock as Elementary>⟧.stands ⟦<AnyBlock as Elementary>⟧.is_sound) plan.net f.0.blocks.items f.0.nodes.items f.0.instances.items f.0.actions.items f.0.types.items f.0.rows.items f.0.outputs.items) }
+    ensures fixed { IfOk result (λ f. IsFixed any_blocks plan.net f.0.blocks.items f.0.nodes.items f.0.instances.items f.0.actions.items f.0.types.items f.0.rows.items f.0.outputs.items) }
     ensures size { IfOk result (λ f. f.1 ≡ state_place plan.net (length plan.net.instances)) }
 {
     let net = plan.net().net();

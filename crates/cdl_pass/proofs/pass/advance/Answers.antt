@@ -7,7 +7,7 @@ use Rattle.cdl_pass.specs.declared.net.Action.{Action}
 use Rattle.cdl_pass.specs.Net.{Reads, Writes, sort_at, blocks_of, net_of}
 use Rattle.cdl_pass.specs.Tick.{Past, IsTyped}
 use Rattle.cdl_pass.proofs.Ready.{ready_all, value_some}
-use Rattle.cdl_pass.proofs.Passing.{none_of, first_none, lacks_none, here, at, gives_at, fault_at, written_at}
+use Rattle.cdl_pass.proofs.Passing.{none_of, first_none, lacks_none, here, at, gives_at, fault_at, lesser_inside, written_at}
 use Rattle.cdl_pass.proofs.pass.advance.Goals as goal
 
 abbrev node0 : Node
@@ -110,3 +110,8 @@ returns-in-Emit-clause-plain g c = λ h. (first_none c.args.least c.emit_strict-
 
 pub returns-in-Emit-clause-step : goal.returns-in-Emit-clause-step
 returns-in-Emit-clause-step g c = λ h. rw c.in-Emit.is (c.emit_strict-fault.ensures.step (c.is_whole-whole.ensures ∙ lacks_none c.args.least h))
+
+pub returns-in-Emit-clause-inside : goal.returns-in-Emit-clause-inside
+returns-in-Emit-clause-inside g c =
+    let hn : c.in-Emit.block < length c.args.nodes.now = rw c.in-Emit.is at c.requires.names in
+    rw c.first_of.ensures (lesser_inside c.args.least c.in-Emit.block (length c.args.nodes.now) c.emit_strict-fault.result c.requires.inside hn)

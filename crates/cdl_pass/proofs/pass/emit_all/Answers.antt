@@ -30,6 +30,7 @@ loop-i-preserved g c =
     let s = spent_next c.args.actions.now i action is in
     record {
       size = e.size ∙ inv.size;
+      inside = e.inside;
       states = e.states ∙ inv.states;
       few = omega (arith, s, e.few, inv.few);
       step = λ z. let y = e.plain z in let a = inv.step y in let b = e.step y in omega (arith, s, a, b);

@@ -1,4 +1,5 @@
-use Rattle.std.proofs.Common.{◌≡◌, ◌+◌, ◌≤◌, length, drop, None}
+use Rattle.std.proofs.Common.{◌≡◌, ◌+◌, ◌<◌, ◌≤◌, length, drop, None}
+use Rattle.std.specs.Prelude.{IfSome}
 use Rattle.cdl_values.specs.History.{word}
 use Rattle.cdl_pass.specs.Net.{blocks_of, net_of}
 use Rattle.cdl_pass.specs.Tick.{Past, Starts, Typed, Passed, spent_in}
@@ -13,6 +14,7 @@ invariant-loop-i g l =
       states : drop (length l.kinds) l.words ≡ drop (length l.kinds) l.initial.words;
       few : l.steps ≤ l.initial.steps + spent_in l.actions l.i;
       step : l.least ≡ None → l.steps ≡ l.initial.steps + spent_in l.actions l.i;
+      inside : IfSome l.least (λ j. j < length l.nodes);
       typed : Typed n l.i (word l.words) l.least;
       so_far : (r : Past) → Starts m n l.now r l.initial.words → Passed m n l.now l.row r l.i (word l.words) l.least;
     }
