@@ -4,7 +4,7 @@ use Rattle.std.proofs.Math.Seq.{take-suc}
 use Rattle.std.proofs.lemmas.Bool.{false≢true}
 use Rattle.std.proofs.lemmas.List.{map-append}
 use Rattle.std.proofs.lemmas.Option.{slice_get_within}
-use Rattle.std.specs.Prelude.{◌↔◌}
+use Rattle.std.specs.Prelude.{◌↔◌, OnOk, Result, Ok, Err}
 use Rattle.cdl_values.specs.History.{History}
 use Rattle.cdl_values.specs.declared.value.Array.{Array}
 use Rattle.cdl_values.specs.declared.value.ValueType.{ValueType}
@@ -17,11 +17,12 @@ use Rattle.cdl_kinds.specs.StateWords.{state_words}
 use Rattle.cdl_network.specs.Lists.{In, numbers}
 use Rattle.cdl_network.specs.Dependence.{is_of, is_root_input, root_inputs}
 use Rattle.cdl_connect.specs.declared.net.Net.{Net}
+use Rattle.cdl_connect.specs.declared.net.NetElement.{NetElement}
 use Rattle.cdl_connect.specs.declared.net.NetInstance.{NetInstance}
 use Rattle.cdl_connect.specs.declared.net.Body.{Body}
 use Rattle.cdl_connect.specs.declared.net.Body.TheVariants.{Composite, Elementary}
 use Rattle.cdl_connect.specs.Faults.{IsChecked}
-use Rattle.cdl_connect.specs.Nets.{element, is_block, is_elementary, network_of, words_at, words_of}
+use Rattle.cdl_connect.specs.Nets.{element, is_block, is_elementary, network_of, no_element, words_at, words_of}
 use Rattle.cdl_connect.specs.WellFormed.{IsWellFormed}
 use Rattle.cdl_connect.proofs.Windows.{IsOf, inputs_are, of_kind, outputs_are}
 use Rattle.cdl_network.proofs.Inside.{and_both, kept_true}
@@ -205,3 +206,19 @@ rows_next f g t xs xs2 a e = e ∙ ap (λ l. cond (f t) (l ++ g t ∷ []) l) a �
 
 pub block_is : {B : Type 0} (m : Blocks B) (b : B) (k : Kind) (v w : List Array) → v ≡ w → m.inputs b ≡ inputs k v → m.results b ≡ outputs k v → m.width b ≡ state_words k v → m.meaning b ≡ meaning k v → ((state : List ℤ) (h : History) → m.stands b state h ↔ Stands k v state h) → ((state : List ℤ) (last : ℤ) → m.sound b state last ↔ IsSound k v state last) → IsBlock m b k w
 block_is m b k v w e i r d f s t = subst (λ z. IsBlock m b k z) e (record { inputs = i; results = r; width = d; meaning = f; stands = s; sound = t })
+
+-- what is read at a place
+pick : (xs : List NetElement) (x : ℕ) (d e : NetElement) → x < length xs → e ≡ get_or xs x e → get_or xs x d ≡ e
+pick [] x d e h q = absurd (omega (arith, h))
+pick (y ∷ xs) zero d e h q = sym q
+pick (y ∷ xs) (suc x) d e h q = pick xs x d e (omega (arith, h)) q
+
+pub element_is : (n : Net) (xs : List NetElement) (x : ℕ) (e : NetElement) → xs ≡ n.elements → x < length n.elements → e ≡ get_or xs x e → element n x ≡ e
+element_is n xs x e q h r = pick n.elements x no_element e h (r ∙ ap (λ l. get_or l x e) q)
+
+pub no_input : (n : Net) (x : ℕ) (e : NetElement) → element n x ≡ e → not e.input ≡ true → (element n x).input ≡ false
+no_input n x e q h = ap (λ (y : NetElement). y.input) q ∙ not_true e.input h
+
+pub ok_of : {A E : Type 0} (r : Result A E) (P : Type 0) → P → OnOk r P
+ok_of (Ok x) P p = p
+ok_of (Err x) P p = tt

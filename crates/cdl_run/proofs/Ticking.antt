@@ -1,5 +1,8 @@
 -- What a pass needs of a runner, and what a runner has of it.
-use Rattle.std.proofs.Common.{ℕ, zero, suc, ◌+◌, ◌-◌, ◌<◌, ◌≤◌, ◌≡◌, refl, sym, ap, ◌∙◌, subst, arith, ℤ, negsuc, ◌<ℤ◌, List, [], ◌∷◌, ◌++◌, length, Option, Some, None, slice_get}
+use Rattle.std.proofs.Common.{ℕ, zero, suc, ◌+◌, ◌-◌, ◌<◌, ◌≤◌, ◌≡◌, refl, sym, ap, ◌∙◌, subst, arith, ℤ, negsuc, ◌<ℤ◌, List, [], ◌∷◌, ◌++◌, length, get_or, Option, Some, None, slice_get}
+use Rattle.std.specs.List.{refill}
+use Rattle.std.specs.Option.{option_map}
+use Rattle.cdl_run.specs.declared.runner.RangeFault.{RangeFault}
 use Rattle.cdl_values.specs.History.{IsTime, IsValue, word}
 use Rattle.cdl_values.specs.declared.value.ValueType.{ValueType}
 use Rattle.cdl_network.specs.Dependence.{root_inputs}
@@ -13,9 +16,13 @@ use Rattle.cdl_pass.specs.Net.{AllAt, Blocks, Laid, Planned, net_of, sort_at}
 use Rattle.cdl_pass.specs.Tick.{FirstFault, IsTyped, NoFault, Past, RowOf, Solves, Starts}
 use Rattle.cdl_pass.specs.Windows.{state_of}
 use Rattle.cdl_pass.proofs.Passing.{there}
-use Rattle.cdl_run.specs.Words.{elementary_below, state_place}
+use Rattle.cdl_network.specs.Lists.{numbers}
+use Rattle.cdl_network.proofs.Inside.{in_filter, in_slice}
+use Rattle.cdl_connect.proofs.Networks.{below_all}
+use Rattle.cdl_run.specs.Words.{elementary_below, is_root_output, root_outputs, state_place}
 use Rattle.cdl_run.specs.Runs.{HasFault, IsRow, RunStands, tick_at}
 use Rattle.cdl_run.specs.inner.Laid.{element_types, row_types}
+use Rattle.cdl_run.specs.inner.Ready.{IsReady}
 use Rattle.cdl_run.specs.inner.Setting.{IsSet, past_at}
 use Rattle.cdl_run.proofs.Laying.{laid, planned, read_mapped, row_length}
 use Rattle.cdl_run.proofs.Meeting.{Now}
@@ -77,3 +84,34 @@ tick_fault {n = n} {ts = ts} now row w j i s ir time later ty r so ff e =
     let st = starts now s later r in
     let past : Past = past_at n (after [] ts r.values) in
     faults (tick_at now row) w j i r (now_at now row w s ir time later ty r (so past st)) e (ff past st)
+
+-- what was written last is all that a region has
+pub refill_all : (xs ws : List ℤ) → length ws ≡ length xs → refill (length xs) xs ws ≡ ws
+refill_all [] [] e = refl
+refill_all [] (w ∷ ws) e = absurd (omega (arith, e))
+refill_all (x ∷ xs) [] e = absurd (omega (arith, e))
+refill_all (x ∷ xs) (w ∷ ws) e = ap (λ l. w ∷ l) (refill_all xs ws (omega (arith, e)))
+
+pub next_ready : {B : Type 0} {m : Blocks B} {n : Net} {bs : List B} {ps : List Node} {actions : List Action} {kinds rows : List ValueType} (old new : List ℤ) (last now : ℤ) (fault : Option ℕ) → IsReady m n bs ps actions kinds rows old last fault → length new ≡ length old → AllAt (net_of bs ps actions kinds rows) (λ j b p. m.sound b (state_of p new) now) → IsReady m n bs ps actions kinds rows (refill (length old) old new) now fault
+next_ready {m = m} {n} {bs} {ps} {actions} {kinds} {rows} old new last now fault r e f =
+    subst (λ w. IsReady m n bs ps actions kinds rows w now fault) (sym (refill_all old new e)) (record { size = e ∙ r.size; sound = λ z. f })
+
+pub fault_ready : {B : Type 0} {m : Blocks B} {n : Net} {bs : List B} {ps : List Node} {actions : List Action} {kinds rows : List ValueType} (old new : List ℤ) (last : ℤ) (fault : Option ℕ) (i : ℕ) → IsReady m n bs ps actions kinds rows old last fault → length new ≡ length old → IsReady m n bs ps actions kinds rows (refill (length old) old new) last (Some i)
+fault_ready {m = m} {n} {bs} {ps} {actions} {kinds} {rows} old new last fault i r e =
+    subst (λ w. IsReady m n bs ps actions kinds rows w last (Some i)) (sym (refill_all old new e)) (record { size = e ∙ r.size; sound = λ z. absurd (cc) })
+
+-- an output of the root is an element, and has a word
+get_other : (xs : List ℕ) (i x : ℕ) → i < length xs → x ≡ get_or xs i x → slice_get xs i ≡ Some x
+get_other [] i x h e = absurd (omega (arith, h))
+get_other (y ∷ xs) zero x h e = ap Some (sym e)
+get_other (y ∷ xs) (suc i) x h e = get_other xs i x (omega (arith, h)) e
+
+pub output_inside : (n : Net) (outs : List ℕ) (w : List ℤ) (i x : ℕ) → outs ≡ root_outputs n → length w ≡ state_place n (length n.instances) → i < length (root_outputs n) → x ≡ get_or outs i x → x < length w
+output_inside n outs w i x e s h q =
+    let a = get_other (root_outputs n) i x h (q ∙ ap (λ l. get_or l i x) e) in
+    let b = below_all (length n.elements) x (in_filter (is_root_output n) x (numbers 0 (length n.elements)) (in_slice (root_outputs n) i x a)) in
+    omega (arith, b, s)
+
+pub none_fault : (o : Option RangeFault) → ((f : RangeFault) → o ≡ Some f → ⊥) → option_map (λ f. f.instance) o ≡ None
+none_fault None h = refl
+none_fault (Some f) h = absurd (h f refl)
