@@ -216,8 +216,8 @@ pick (y ∷ xs) (suc x) d e h q = pick xs x d e (omega (arith, h)) q
 pub element_is : (n : Net) (xs : List NetElement) (x : ℕ) (e : NetElement) → xs ≡ n.elements → x < length n.elements → e ≡ get_or xs x e → element n x ≡ e
 element_is n xs x e q h r = pick n.elements x no_element e h (r ∙ ap (λ l. get_or l x e) q)
 
-pub no_input : (n : Net) (x : ℕ) (e : NetElement) → element n x ≡ e → not e.input ≡ true → (element n x).input ≡ false
-no_input n x e q h = ap (λ (y : NetElement). y.input) q ∙ not_true e.input h
+pub no_input : (n : Net) (x : ℕ) (e g : NetElement) → element n x ≡ e → e ≡ g → g.input ≡ false → (element n x).input ≡ false
+no_input n x e g q r h = ap (λ (y : NetElement). y.input) (q ∙ r) ∙ h
 
 pub ok_of : {A E : Type 0} (r : Result A E) (P : Type 0) → P → OnOk r P
 ok_of (Ok x) P p = p

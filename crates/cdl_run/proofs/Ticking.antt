@@ -1,7 +1,11 @@
 -- What a pass needs of a runner, and what a runner has of it.
 use Rattle.std.proofs.Common.{ℕ, zero, suc, ◌+◌, ◌-◌, ◌<◌, ◌≤◌, ◌≡◌, refl, sym, ap, ◌∙◌, subst, arith, ℤ, negsuc, ◌<ℤ◌, List, [], ◌∷◌, ◌++◌, length, get_or, Option, Some, None, slice_get}
 use Rattle.std.specs.List.{refill}
+use Rattle.std.proofs.lemmas.List.{length-replicate}
 use Rattle.std.specs.Option.{option_map}
+use Rattle.std.specs.Prelude.{replicate, pos}
+use Rattle.cdl_network.specs.Rules.{word_count}
+use Rattle.cdl_pool.specs.Windows.{Carved}
 use Rattle.cdl_run.specs.declared.runner.RangeFault.{RangeFault}
 use Rattle.cdl_values.specs.History.{IsTime, IsValue, word}
 use Rattle.cdl_values.specs.declared.value.ValueType.{ValueType}
@@ -115,3 +119,39 @@ output_inside n outs w i x e s h q =
 pub none_fault : (o : Option RangeFault) → ((f : RangeFault) → o ≡ Some f → ⊥) → option_map (λ f. f.instance) o ≡ None
 none_fault None h = refl
 none_fault (Some f) h = absurd (h f refl)
+
+-- the instance of a block
+pub fault_at : (xs ys : List ℕ) (j i : ℕ) → j < length xs → ys ≡ xs → i ≡ get_or ys j i → slice_get xs j ≡ Some i
+fault_at xs ys j i h e q = get_other xs j i h (q ∙ ap (λ l. get_or l j i) e)
+
+-- a region before the first tick
+pub region_size : (r : Carved) (k : ℕ) → r ≡ record { words = replicate k (pos 0); used = 0 } → length r.words ≡ k
+region_size r k e = ap (λ (z : Carved). length z.words) e ∙ length-replicate k (pos 0)
+
+-- what is known of some lists is known of equal ones
+pub moved : {B : Type 0} (P : List B → List Node → List Action → List ValueType → List ValueType → List ℤ → ℤ → Type 0) (bs bs2 : List B) (ps ps2 : List Node) (acts acts2 : List Action) (kinds kinds2 rows rows2 : List ValueType) (words words2 : List ℤ) (now now2 : ℤ) → bs ≡ bs2 → ps ≡ ps2 → acts ≡ acts2 → kinds ≡ kinds2 → rows ≡ rows2 → words ≡ words2 → now ≡ now2 → P bs ps acts kinds rows words now → P bs2 ps2 acts2 kinds2 rows2 words2 now2
+moved P bs bs2 ps ps2 acts acts2 kinds kinds2 rows rows2 words words2 now now2 a b c d e f g h =
+    subst (λ z. P bs2 ps2 acts2 kinds2 rows2 words2 z) g
+    (subst (λ z. P bs2 ps2 acts2 kinds2 rows2 z now) f
+    (subst (λ z. P bs2 ps2 acts2 kinds2 z words now) e
+    (subst (λ z. P bs2 ps2 acts2 z rows words now) d
+    (subst (λ z. P bs2 ps2 z kinds rows words now) c
+    (subst (λ z. P bs2 z acts kinds rows words now) b
+    (subst (λ z. P z ps acts kinds rows words now) a h))))))
+
+pub start_ready : {B : Type 0} {m : Blocks B} {n : Net} {bs : List B} {ps : List Node} {actions : List Action} {kinds rows : List ValueType} (old new : List ℤ) (fault : Option ℕ) → length old ≡ state_place n (length n.instances) → length new ≡ length old → AllAt (net_of bs ps actions kinds rows) (λ j b p. m.sound b (state_of p new) (negsuc 0)) → IsReady m n bs ps actions kinds rows (refill (length old) old new) (negsuc 0) fault
+start_ready {m = m} {n} {bs} {ps} {actions} {kinds} {rows} old new fault s e f =
+    subst (λ w. IsReady m n bs ps actions kinds rows w (negsuc 0) fault) (sym (refill_all old new e)) (record { size = e ∙ s; sound = λ z. f })
+
+pub start_stands : {B : Type 0} {m : Blocks B} {n : Net} {bs : List B} {ps : List Node} {actions : List Action} {kinds rows : List ValueType} (old new : List ℤ) → IsSet m n bs ps actions kinds rows → length new ≡ length old → AllAt (net_of bs ps actions kinds rows) (λ j b p. m.stands b (state_of p new) []) → RunStands n [] (negsuc 0) (refill (length old) old new)
+start_stands {n = n} old new s e f = subst (λ w. RunStands n [] (negsuc 0) w) (sym (refill_all old new e)) (stands_first new s f)
+
+numbers_length : (a k : ℕ) → length (numbers a k) ≡ k
+numbers_length a zero = refl
+numbers_length a (suc k) = ap suc (numbers_length (suc a) k)
+
+pub words_total : (n : Net) → state_place n (length n.instances) ≡ word_count (network_of n)
+words_total n = let e = numbers_length 0 (length n.elements) in omega (arith, e)
+
+pub start_size : (n : Net) (old new : List ℤ) → length old ≡ state_place n (length n.instances) → length new ≡ length old → length (refill (length old) old new) ≡ word_count (network_of n)
+start_size n old new s e = ap length (refill_all old new e) ∙ e ∙ s ∙ words_total n
