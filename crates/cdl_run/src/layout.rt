@@ -92,6 +92,16 @@ fn block(alloc: Global, kind: Kind, params: &Params) -> Result<AnyBlock, OutOfMe
     Ok(AnyBlock::new(kind, params.copy(alloc)?))
 }
 
+// The place behind so many words. A region of more words than can be counted is out of memory.
+fn place_behind(place: usize, width: usize) -> Result<usize, OutOfMemory>
+    ensures { IfOk result (λ p. p ≡ place + width) }
+{
+    match place.checked_add(width) {
+        Some(behind) => Ok(behind),
+        None => Err(OutOfMemory),
+    }
+}
+
 // Adds what is made of an instance, whose state words begin at this place, and gives the place behind them.
 fn add_instance(
     alloc: Global,
@@ -117,7 +127,7 @@ fn add_instance(
             blocks.blocks.push(block(alloc, *kind, params)?)?;
             blocks.nodes.push(node)?;
             blocks.instances.push(i as u32)?;
-            place.checked_add(node.width).ok_or(OutOfMemory)
+            place_behind(place, node.width)
         }
     }
 }
