@@ -1,0 +1,5 @@
+pub mod Places
+pub mod Ready
+pub mod Passing
+pub mod Absorbing
+pub mod Running

@@ -1,0 +1,4 @@
+pub mod Windows
+pub mod Net
+pub mod Tick
+pub mod Absorb

@@ -1,0 +1,9 @@
+pub mod Values
+pub mod Ranks
+pub mod Typing
+pub mod Meeting
+pub mod Running
+pub mod Laying
+pub mod Building
+pub mod Counting
+pub mod Ticking

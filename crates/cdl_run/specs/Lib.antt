@@ -1,0 +1,4 @@
+pub mod Words
+pub mod Runs
+pub mod Running
+pub mod inner

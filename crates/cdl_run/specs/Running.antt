@@ -1,0 +1,35 @@
+-- What contracts see of a runner.
+use Rattle.std.specs.Prelude.{ℕ, ◌<◌, ◌≡◌, ◌≤◌, ℤ, true, List, length, Option, None, Some, slice_get}
+use Rattle.cdl_kinds.specs.States.{IsSound}
+use Rattle.cdl_network.specs.Ticks.{Tick}
+use Rattle.cdl_connect.specs.declared.net.Net.{Net}
+use Rattle.cdl_connect.specs.declared.net.NetInstance.{NetInstance}
+use Rattle.cdl_connect.specs.declared.net.Body.{Body}
+use Rattle.cdl_connect.specs.declared.net.Body.TheVariants.{Composite, Elementary}
+use Rattle.cdl_connect.specs.Nets.{network_of}
+use Rattle.cdl_run.specs.Runs.{RunStands}
+use Rattle.cdl_run.specs.Words.{state_at}
+
+-- its net, its words, the time of its last tick, and the instance of the fault that it answered
+pub record Running : Type 0 where
+  pub net : Net
+  pub words : List ℤ
+  pub last : ℤ
+  pub fault : Option ℕ
+
+-- it has answered no fault, and stands for these ticks
+pub record Stands (r : Running) (ts : List Tick) : Type 0 where
+  pub calm : r.fault ≡ None
+  pub run : RunStands r.net ts r.last r.words
+
+-- the state may stand for some ticks, the last of them at this time or before
+abbrev pub IsSoundState : Body → List ℤ → ℤ → Type 0
+IsSoundState Composite state last = Unit {0}
+IsSoundState (Elementary k p) state last = IsSound k p state last
+
+-- the first elementary instance in preorder whose state is not sound for the time
+pub record FirstUnsound (n : Net) (last : ℤ) (words : List ℤ) (i : ℕ) : Type 0 where
+  pub t : NetInstance
+  pub there : slice_get n.instances i ≡ Some t
+  pub unsound : IsSoundState t.body (state_at n i words) last → ⊥
+  pub first : (j : ℕ) (s : NetInstance) → j < i → slice_get n.instances j ≡ Some s → IsSoundState s.body (state_at n j words) last

@@ -1,0 +1,4 @@
+pub mod AnyBlocks
+pub mod Laid
+pub mod Setting
+pub mod Ready

@@ -1,0 +1,203 @@
+// The runner.
+ghost use Rattle.std.specs.Prelude.{◌≡◌, ◌+◌, ◌<◌, ◌≤◌, ◌++◌, ◌∷◌, ◌<ℤ◌, [], ℕ, ℤ, List, Err, IfErr, IfOk, OnOk, Some, get_or, length, negsuc, slice_get};
+ghost use Rattle.std.specs.Option.{option_map};
+ghost use Rattle.cdl_values.specs.History.{IsTime, word};
+ghost use Rattle.cdl_network.specs.Rules.{word_count};
+ghost use Rattle.cdl_network.specs.Ticks.{Tick};
+ghost use Rattle.cdl_connect.specs.declared.net.NetInstance.{NetInstance as InstanceOf};
+ghost use Rattle.cdl_connect.specs.Nets.{network_of};
+ghost use Rattle.cdl_connect.specs.WellFormed.{IsWellFormed};
+ghost use Rattle.cdl_run.specs.inner.AnyBlocks.{any_blocks};
+ghost use Rattle.cdl_run.specs.Words.{root_outputs, state_place};
+ghost use Rattle.cdl_run.specs.Runs.{HasFault, IsRow, tick_at};
+ghost use Rattle.cdl_run.specs.Running.{Stands};
+ghost use Rattle.cdl_run.specs.inner.Ready.{IsFixed};
+
+use crate::layout::{actions_in, blocks_in, outputs_in, rows_in, types_in};
+use cdl_blocks::AnyBlock;
+use cdl_kinds::Steps;
+use cdl_pass::{Action, Node, reset_all, tick_all};
+use cdl_pool::Region;
+use cdl_schedule::Plan;
+use cdl_source::{OutOfMemory, Text};
+use cdl_values::ValueType;
+use std::alloc::Global;
+use std::marker::Model;
+use std::sync::ledger::Ledger;
+
+/// The first elementary instance in preorder whose direct inputs all have values at a tick, and whose meaning has none.
+#[derive(Clone, Copy, Debug, PartialEq, Eq, Drop)]
+pub struct RangeFault {
+    pub instance: u32,
+}
+
+// What a runner has beside its words. It stays as it was made.
+#[derive(Drop)]
+struct Parts {
+    plan: Plan,
+    blocks: Vec<AnyBlock>,
+    nodes: Vec<Node>,
+    // The number of each block's instance.
+    instances: Vec<u32>,
+    actions: Vec<Action>,
+    types: Vec<ValueType>,
+    rows: Vec<ValueType>,
+    // The outputs of the root.
+    outputs: Vec<u32>,
+}
+
+/// Runs a net tick by tick. Contracts see its net, its words, the time of its last tick, and the instance of the fault that it
+/// has answered.
+#[derive(Drop)]
+pub struct Runner {
+    parts: Parts,
+    region: Region,
+    last: i64,
+    fault: Option<RangeFault>,
+}
+
+impl Model for Runner {
+    ghost use Rattle.std.specs.Option.{option_map};
+    ghost use Rattle.cdl_run.specs.inner.AnyBlocks.{any_blocks};
+    ghost use Rattle.cdl_run.specs.Running.{Running};
+    ghost use Rattle.cdl_run.specs.inner.Ready.{IsFixed, IsReady};
+
+    ghost Value = { Running };
+
+    ghost view = { λ r. record { net = r.parts.plan.net; words = r.region.words; last = r.last; fault = option_map (λ f. f.instance) r.fault } };
+
+    ghost invariant = { λ r. IsFixed any_blocks r.parts.plan.net r.parts.blocks.items r.parts.nodes.items r.parts.instances.items r.parts.actions.items r.parts.types.items r.parts.rows.items r.parts.outputs.items
+        × IsReady any_blocks r.parts.plan.net r.parts.blocks.items r.parts.nodes.items r.parts.actions.items r.parts.types.items r.parts.rows.items r.region.words r.last (option_map (λ f. f.instance) r.fault) };
+}
+
+// What is made of a plan, and how many words it needs.
+fn parts_of(alloc: Global, plan: Plan) -> Result<(Parts, usize), OutOfMemory>
+    requires { IsWellFormed plan.net }
+    ensures net { IfOk result (λ f. f.0.plan ≡ plan) }
+    ensures fixed { IfOk result (λ f. IsFixed any_blocks plan.net f.0.blocks.items f.0.nodes.items f.0.instances.items f.0.actions.items f.0.types.items f.0.rows.items f.0.outputs.items) }
+    ensures size { IfOk result (λ f. f.1 ≡ state_place plan.net (length plan.net.instances)) }
+{
+    let net = plan.net().net();
+    let (blocks, size) = blocks_in(alloc, net)?;
+    let actions = actions_in(alloc, net, plan.steps(), blocks.ranks.as_slice())?;
+    let types = types_in(alloc, net)?;
+    let rows = rows_in(alloc, net)?;
+    let outputs = outputs_in(alloc, net)?;
+    let parts = Parts {
+        plan,
+        blocks: blocks.blocks,
+        nodes: blocks.nodes,
+        instances: blocks.instances,
+        actions,
+        types,
+        rows,
+        outputs,
+    };
+    Ok((parts, size))
+}
+
+impl Runner {
+    /// A runner before its first tick. It takes all memory of the run.
+    pub fn start(alloc: Global, plan: Plan) -> Result<Runner, OutOfMemory>
+        requires { IsWellFormed plan.net }
+        ensures net { IfOk result (λ r. r.net ≡ plan.net) }
+        ensures stands { IfOk result (λ r. Stands r []) }
+        ensures size { IfOk result (λ r. length r.words ≡ word_count (network_of plan.net)) }
+    {
+        let (parts, size) = parts_of(alloc, plan)?;
+        let mut region = Region::new(alloc, size)?;
+        reset_all(
+            &parts.blocks,
+            &parts.nodes,
+            &parts.actions,
+            &parts.types,
+            &parts.rows,
+            region.all_mut(),
+        );
+        Ok(Runner {
+            parts,
+            region,
+            last: -1,
+            fault: None,
+        })
+    }
+
+    /// One tick at this time, with a word for each input of the root. It takes no memory.
+    /// RangeFault: the first elementary instance in preorder whose direct inputs all have values, and whose meaning has none.
+    /// Each further tick then answers the same.
+    pub fn tick<L: Ledger>(
+        &mut self,
+        now: i64,
+        row: &[i64],
+        steps: &mut Steps<L>,
+    ) -> Result<(), RangeFault>
+        requires time { IsTime now }
+        requires later { self.old.last <ℤ now }
+        requires row { IsRow self.old.net row.now }
+        ensures net { self.new.net ≡ self.old.net }
+        ensures size { length self.new.words ≡ length self.old.words }
+        ensures ok { (ts : List Tick) → Stands self.old ts → OnOk result (Stands self.new (ts ++ tick_at now row.now ∷ [])) }
+        ensures fault { (ts : List Tick) → Stands self.old ts → IfErr result (λ f. HasFault self.old.net ts (tick_at now row.now) f.instance) }
+        ensures kept { IfErr result (λ f. self.new.fault ≡ Some f.instance) }
+        ensures again { (i : ℕ) → self.old.fault ≡ Some i → (result ≡ Err (record { instance = i })) × (self.new ≡ self.old) }
+    {
+        if let Some(fault) = self.fault {
+            return Err(fault);
+        }
+        let parts = &self.parts;
+        let words = self.region.all_mut();
+        match tick_all(
+            &parts.blocks,
+            &parts.nodes,
+            &parts.actions,
+            &parts.types,
+            &parts.rows,
+            row,
+            words,
+            now,
+            steps,
+        ) {
+            Ok(()) => {
+                self.last = now;
+                Ok(())
+            }
+            Err(fault) => {
+                let fault = RangeFault {
+                    instance: parts.instances[fault.block],
+                };
+                self.fault = Some(fault);
+                Err(fault)
+            }
+        }
+    }
+
+    /// The word of an output of the root at the last tick. It takes no memory.
+    pub fn output(&self, i: usize) -> i64
+        requires { i < length (root_outputs self.now.net) }
+        ensures { result ≡ word self.now.words (get_or (root_outputs self.now.net) i 0) }
+    {
+        self.region.all()[self.parts.outputs[i] as usize]
+    }
+
+    /// The path of an instance. It takes no memory.
+    pub fn path(&self, instance: u32) -> &Text
+        requires { instance < length self.now.net.instances }
+        ensures { (t : InstanceOf) → slice_get self.now.net.instances instance ≡ Some t → result.now ≡ t.path }
+    {
+        &self.parts.plan.net().net().instances.items()[instance as usize].path
+    }
+
+    /// Its words: one for each element, and then the state words of each elementary instance in preorder. It takes no memory.
+    pub fn words(&self) -> &[i64]
+        ensures { result.now ≡ self.now.words }
+    {
+        self.region.all()
+    }
+
+    /// The time of the last tick, and -1 before any. It takes no memory.
+    pub fn last(&self) -> i64
+        ensures { result ≡ self.now.last }
+    {
+        self.last
+    }
+}
