@@ -1,5 +1,5 @@
 -- What an expression is worth, by what its names are worth.
-use Rattle.std.proofs.Common.{◌≡◌, ℕ, suc, refl, sym, ap, ◌∙◌, subst, Bool, cond, List, [], ◌∷◌, length, map, Option, Some, None, Ok, Err}
+use Rattle.std.proofs.Common.{◌≡◌, suc, refl, ap, subst, Bool, List, [], ◌∷◌, length, map, Option, Some, None}
 use Rattle.cdl_source.specs.declared.rules.TheConstants.{UNKNOWN_NAME}
 use Rattle.cdl_tree.specs.declared.name.Name.{Name}
 use Rattle.cdl_tree.specs.declared.expr.Op.{Op}
@@ -18,7 +18,6 @@ use Rattle.cdl_array.specs.Outcomes.{Outcome, then_to, holds_or}
 use Rattle.cdl_worth.specs.Expressions.{all, subscripted, called, right_side, node_step, expr_step, eval}
 use Rattle.cdl_worth.specs.Links.{Within, same}
 use Rattle.cdl_worth.proofs.Withins.{then_within, after_within, before_within, holds_within, cond_within}
-
 
 all_within : {X : Type 0} (f g : X → Outcome Array) (xs : List ((x : X) × Within (f x) (g x))) → Within (all (map f (map (λ p. p.0) xs))) (all (map g (map (λ p. p.0) xs)))
 all_within f g [] = same refl
@@ -52,7 +51,6 @@ expr_eval f = fold-Expr (Outcome Array) (Outcome Array) (node_step f) expr_step
 abbrev Beside : (f g : Name → Outcome Array) → Type 0
 Beside f g = Node-F ((n : Node) × Within (node_eval f n) (node_eval g n)) ((e : Expr) × Within (expr_eval f e) (expr_eval g e))
 
-
 abbrev firsts : (f g : Name → Outcome Array) → Beside f g → Node-F Node Expr
 firsts f g y = map-Node ((n : Node) × Within (node_eval f n) (node_eval g n)) ((e : Expr) × Within (expr_eval f e) (expr_eval g e)) Node Expr (λ p. p.0) (λ p. p.0) y
 
@@ -75,7 +73,7 @@ pub eval_within : (f g : Name → Outcome Array) → ((n : Name) → Within (f n
 unfolding eval
 eval_within f g h e = ind-Expr (λ n. Within (node_eval f n) (node_eval g n)) (λ e. Within (expr_eval f e) (expr_eval g e))
     (λ x y is. subst (λ z. Within (node_eval f (roll-Node z)) (node_eval g (roll-Node z))) is
-        (rw (fold-roll-Node (Outcome Array) (Outcome Array) (node_step f) expr_step (firsts f g y), fold-roll-Node (Outcome Array) (Outcome Array) (node_step g) expr_step (firsts f g y)) (node_within f g h y)))
+    (rw (fold-roll-Node (Outcome Array) (Outcome Array) (node_step f) expr_step (firsts f g y), fold-roll-Node (Outcome Array) (Outcome Array) (node_step g) expr_step (firsts f g y)) (node_within f g h y)))
     (λ x y is. subst (λ z. Within (expr_eval f (roll-Expr z)) (expr_eval g (roll-Expr z))) is
-        (rw (fold-roll-Expr (Outcome Array) (Outcome Array) (node_step f) expr_step (the_first f g y), fold-roll-Expr (Outcome Array) (Outcome Array) (node_step g) expr_step (the_first f g y)) y.node.1))
+    (rw (fold-roll-Expr (Outcome Array) (Outcome Array) (node_step f) expr_step (the_first f g y), fold-roll-Expr (Outcome Array) (Outcome Array) (node_step g) expr_step (the_first f g y)) y.node.1))
     e

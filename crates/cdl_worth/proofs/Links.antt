@@ -1,6 +1,5 @@
 -- What holds of answers that more links change only where they are too deep.
-use Rattle.std.proofs.Common.{ℕ, zero, suc, ◌≡◌, ◌<◌, ◌≤◌, refl, sym, ap, ◌∙◌, arith, inl, inr, cond, Result, Ok, Err}
-use Rattle.std.specs.Prelude.{nat_le}
+use Rattle.std.proofs.Common.{ℕ, zero, suc, ◌≡◌, ◌<◌, ◌≤◌, sym, ◌∙◌, arith, inl, inr, Ok, Err}
 use Rattle.std.proofs.lemmas.Bool.Decides.{nat_tests}
 use Rattle.std.proofs.lemmas.Bool.{cases_lt}
 use Rattle.cdl_source.specs.declared.rules.TheConstants.{PARAMETERS_TOO_DEEP}
@@ -19,7 +18,6 @@ fault_lasts x y r (same s) n e = sym s ∙ e
 fewer : {A : Type 0} (x y : Outcome A) → Within x y → y ≡ Err PARAMETERS_TOO_DEEP → x ≡ Err PARAMETERS_TOO_DEEP
 fewer x y (too_deep t) e = t
 fewer x y (same s) e = s ∙ e
-
 
 at_least : {A : Type 0} (f : ℕ → Outcome A) → Lasts f → (k : ℕ) (v : A) → f k ≡ Ok v → (d : ℕ) → k ≤ d → f d ≡ limited v k d
 at_least f l k v e d le = value_lasts (f k) (f d) v (l.more k d le) e ∙ grind (arith, nat_tests, le)

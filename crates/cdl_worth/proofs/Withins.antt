@@ -1,5 +1,5 @@
 -- What more links change goes through what is made of answers.
-use Rattle.std.proofs.Common.{ℕ, ◌≡◌, ◌≤◌, refl, sym, ap, ◌∙◌, subst, Bool, true, false, cond, List, [], ◌∷◌, length, map, Option, Some, None, Ok, Err}
+use Rattle.std.proofs.Common.{ℕ, refl, sym, ap, subst, Bool, true, false, cond, List, [], ◌∷◌, map, Option, Some, None, Ok, Err}
 use Rattle.cdl_array.specs.Outcomes.{Outcome, then_to, some_or, holds_or}
 use Rattle.cdl_values.specs.declared.value.Array.{Array}
 use Rattle.cdl_worth.specs.Expressions.{all}

@@ -1,5 +1,5 @@
 -- What more links change in what names, declared sizes and bindings are worth.
-use Rattle.std.proofs.Common.{ℕ, zero, suc, ◌+◌, ◌≡◌, ◌≤◌, refl, arith, Bool, true, false, List, [], ◌∷◌, ◌++◌, map, take, drop, Option, Some, None, Ok, Err, codes}
+use Rattle.std.proofs.Common.{ℕ, zero, suc, ◌≤◌, refl, arith, Bool, true, false, List, [], ◌∷◌, take, Option, Some, None, Err, codes}
 use Rattle.std.specs.Prelude.{slice_get}
 use Rattle.cdl_values.specs.declared.value.Array.{Array}
 use Rattle.cdl_values.specs.declared.value.ValueType.{ValueType}
@@ -8,10 +8,8 @@ use Rattle.cdl_tree.specs.declared.expr.Expr.{Expr}
 use Rattle.cdl_tree.specs.declared.class.Dim.{Dim}
 use Rattle.cdl_tree.specs.declared.class.Dim.TheVariants as dim
 use Rattle.cdl_tree.specs.declared.class.Item.{Item}
-use Rattle.cdl_source.specs.declared.rules.TheConstants.{WRONG_TYPE, UNKNOWN_NAME, PARAMETERS_TOO_DEEP, PARAMETER_WITHOUT_VALUE}
-use Rattle.cdl_array.specs.Outcomes.{Outcome, then_to, some_or}
-use Rattle.cdl_array.specs.Operators.{condition}
-use Rattle.cdl_array.specs.Sizes.{size_of}
+use Rattle.cdl_source.specs.declared.rules.TheConstants.{WRONG_TYPE, UNKNOWN_NAME, PARAMETER_WITHOUT_VALUE}
+use Rattle.cdl_array.specs.Outcomes.{Outcome}
 use Rattle.cdl_kinds.specs.declared.kind.Kind.{Kind}
 use Rattle.cdl_kinds.specs.declared.parameter.Preset.{Preset}
 use Rattle.cdl_kinds.specs.declared.parameter.Preset.TheVariants as preset
@@ -27,11 +25,10 @@ use Rattle.cdl_paths.specs.declared.reference.Reference.TheVariants as reference
 use Rattle.cdl_paths.specs.Members.{Declaration, item_at, member, site}
 use Rattle.cdl_paths.specs.Bindings.{Given, Bound, by_text, by_kind, binding_of, row_named}
 use Rattle.cdl_paths.specs.References.{refers}
-use Rattle.cdl_worth.specs.Expressions.{eval}
 use Rattle.cdl_worth.specs.Sizes.{dim_size, dim_sizes, declared_sizes, sizes_of}
 use Rattle.cdl_worth.specs.Values.{Steps, StepSizes, Link, the_class, constant, worth, first_part, names_in, names, eval_at, written, given_value, declared_type, item_value, preset_value, row_sizes, row_bound, row_value, plain_value, nin_of, kind_value, value_in, value_by, link, present_if}
 use Rattle.cdl_worth.specs.Links.{Within, too_deep, same}
-use Rattle.cdl_worth.proofs.Withins.{then_within, after_within, before_within, some_within}
+use Rattle.cdl_worth.proofs.Withins.{then_within, before_within, some_within}
 use Rattle.cdl_worth.proofs.Evals.{eval_within}
 
 -- links of which the second lead further

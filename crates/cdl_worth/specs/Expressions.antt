@@ -1,5 +1,5 @@
 -- What an expression is worth where names have these values: from the left, and the first rule that is broken counts.
-use Rattle.std.specs.Prelude.{ℕ, ◌≡◌, Bool, cond, List, [], ◌∷◌, length, Option, Some, None, Ok, Err}
+use Rattle.std.specs.Prelude.{Bool, cond, List, [], ◌∷◌, length, Option, Some, None, Ok, Err}
 use Rattle.cdl_values.specs.declared.value.Array.{Array}
 use Rattle.cdl_values.specs.declared.value.Value.TheVariants as value
 use Rattle.cdl_tree.specs.declared.name.Name.{Name}

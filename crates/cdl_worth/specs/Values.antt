@@ -1,6 +1,6 @@
 -- What parameters are worth. A place is a first class, which is the root of the model or a package, and the steps behind it, with
 -- their sizes beside them; an expression has the names of the class that stands there.
-use Rattle.std.specs.Prelude.{ℕ, zero, suc, ◌+◌, pos, Bool, true, false, cond, List, [], ◌∷◌, ◌++◌, take, drop, map, replicate, codes, Option, Some, None, option_map, option_and_then, slice_get, Ok, Err}
+use Rattle.std.specs.Prelude.{ℕ, zero, suc, ◌+◌, pos, Bool, true, false, List, [], ◌∷◌, ◌++◌, take, drop, map, replicate, codes, Option, Some, None, option_and_then, slice_get, Ok, Err}
 use Rattle.cdl_values.specs.declared.value.Array.{Array}
 use Rattle.cdl_values.specs.declared.value.Value.{Value}
 use Rattle.cdl_values.specs.declared.value.Value.TheVariants as a
