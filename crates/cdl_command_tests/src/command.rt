@@ -171,7 +171,7 @@ fn end_of(alloc: Global, given: &Given<'_>, devices: Devices) -> Result<Text, Fa
     files.put("t.csv", given.table)?;
     files.piece(devices.read.max(1));
     files.fail(devices.files)?;
-    let mut out = MemSink::new(alloc, devices.write, 4096)?;
+    let mut out = MemSink::new(alloc, devices.write.max(1), 4096)?;
     out.fail(devices.out)?;
     let mut err = MemSink::new(alloc, 4096, 4096)?;
     err.fail(devices.err)?;
