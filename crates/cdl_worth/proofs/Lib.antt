@@ -1,0 +1,5 @@
+pub mod Withins
+pub mod Evals
+pub mod Worths
+pub mod Links
+pub mod Laws

@@ -1,0 +1,4 @@
+pub mod Expressions
+pub mod Sizes
+pub mod Values
+pub mod Links
