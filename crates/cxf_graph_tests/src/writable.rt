@@ -1,6 +1,7 @@
 // Whether a graph can be written, found by looking at each text of it.
 ghost use Rattle.std.specs.Prelude.{◌≡◌, true, All, IsUtf8};
 ghost use Rattle.cdl_connect.specs.WellFormed.{is_plain};
+ghost use Rattle.cxf_graph.specs.declared.graph.NodeBody.TheVariants.{Composite, Connector, Elementary};
 ghost use Rattle.cxf_graph.specs.Document.{IsBody, IsGiven, IsItem, IsNode, IsPair, IsValue, IsWritable};
 
 use cdl_source::Text;
@@ -56,22 +57,40 @@ fn is_value(value: &GivenValue) -> bool
     }
 }
 
+fn is_given(given: &Given) -> bool
+    ensures { result ≡ true → IsGiven given.now }
+{
+    if !is_text(given.name.bytes()) {
+        return false;
+    }
+    is_value(&given.value)
+}
+
 fn are_given(given: &[Given]) -> bool
     ensures { result ≡ true → All IsGiven given.now }
 {
     for parameter in given {
-        if !is_text(parameter.name.bytes()) || !is_value(&parameter.value) {
+        if !is_given(parameter) {
             return false;
         }
     }
     true
 }
 
+fn is_pair(pair: &Pair) -> bool
+    ensures { result ≡ true → IsPair pair.now }
+{
+    if !is_text(pair.left.bytes()) {
+        return false;
+    }
+    is_text(pair.right.bytes())
+}
+
 fn are_pairs(pairs: &[Pair]) -> bool
     ensures { result ≡ true → All IsPair pairs.now }
 {
     for pair in pairs {
-        if !is_text(pair.left.bytes()) || !is_text(pair.right.bytes()) {
+        if !is_pair(pair) {
             return false;
         }
     }
@@ -89,6 +108,40 @@ fn is_plain(kind: ValueType) -> bool
     }
 }
 
+fn is_composite(connectors: &[Text], instances: &[Text], connections: &[Pair]) -> bool
+    ensures { result ≡ true → IsBody (Composite connectors.now instances.now connections.now) }
+{
+    if !are_texts(connectors) {
+        return false;
+    }
+    if !are_texts(instances) {
+        return false;
+    }
+    are_pairs(connections)
+}
+
+fn is_elementary(kind: &[u8], given: &[Given], connectors: &[Text]) -> bool
+    ensures { result ≡ true → IsBody (Elementary kind.now given.now connectors.now) }
+{
+    if !is_text(kind) {
+        return false;
+    }
+    if !are_given(given) {
+        return false;
+    }
+    are_texts(connectors)
+}
+
+fn is_connector(kind: ValueType, input: bool, unit: &[u8]) -> bool
+    ensures { result ≡ true → IsBody (Connector kind input unit.now) }
+{
+    let _ = input;
+    if !is_plain(kind) {
+        return false;
+    }
+    is_text(unit)
+}
+
 fn is_body(body: &NodeBody) -> bool
     ensures { result ≡ true → IsBody body.now }
 {
@@ -97,17 +150,13 @@ fn is_body(body: &NodeBody) -> bool
             connectors,
             instances,
             connections,
-        } => {
-            are_texts(connectors.items())
-                && are_texts(instances.items())
-                && are_pairs(connections.items())
-        }
+        } => is_composite(connectors.items(), instances.items(), connections.items()),
         NodeBody::Elementary {
             kind,
             given,
             connectors,
-        } => { is_text(kind.bytes()) && are_given(given.items()) && are_texts(connectors.items()) }
-        NodeBody::Connector { kind, unit, .. } => is_plain(*kind) && is_text(unit.bytes()),
+        } => is_elementary(kind.bytes(), given.items(), connectors.items()),
+        NodeBody::Connector { kind, input, unit } => is_connector(*kind, *input, unit.bytes()),
         NodeBody::Other => false,
     }
 }
@@ -115,17 +164,26 @@ fn is_body(body: &NodeBody) -> bool
 fn is_node(node: &GraphNode) -> bool
     ensures { result ≡ true → IsNode node.now }
 {
-    is_text(node.id.bytes()) && is_body(&node.body)
+    if !is_text(node.id.bytes()) {
+        return false;
+    }
+    is_body(&node.body)
+}
+
+fn are_nodes(nodes: &[GraphNode]) -> bool
+    ensures { result ≡ true → All IsNode nodes.now }
+{
+    for node in nodes {
+        if !is_node(node) {
+            return false;
+        }
+    }
+    true
 }
 
 /// Whether the graph can be written. It is never true of one that can't be.
 pub fn is_writable(graph: &Graph) -> bool
     ensures { result ≡ true → IsWritable graph.now }
 {
-    for node in graph.nodes.items() {
-        if !is_node(node) {
-            return false;
-        }
-    }
-    true
+    are_nodes(graph.nodes.items())
 }
