@@ -1,14 +1,14 @@
 -- The second pass keeps what it has made true.
-use Rattle.std.proofs.Common.{ℕ, zero, suc, ◌+◌, ◌-◌, ◌<◌, ◌≤◌, ◌≡◌, refl, sym, ap, ◌∙◌, subst, Bool, true, false, ℤ, List, [], ◌∷◌, length, take, drop, pos, arith, length-take, length-drop, Option, Some, None, IsSome, slice_get}
-use Rattle.std.proofs.lemmas.List.{take-take, drop-drop, drop-take, get_or-take}
+use Rattle.std.proofs.Common.{ℕ, ◌+◌, ◌<◌, ◌≤◌, ◌≡◌, refl, sym, ap, ◌∙◌, true, false, ℤ, List, length, take, drop, pos, arith, length-take, length-drop, Option, Some, None, IsSome, slice_get}
+use Rattle.std.proofs.lemmas.List.{take-take, drop-take, get_or-take}
 use Rattle.std.proofs.lemmas.Bool.{false≢true}
 use Rattle.cdl_values.specs.declared.value.ValueType.{ValueType}
-use Rattle.cdl_values.specs.History.{History, Tick, IsHistory, IsTime, IsValue, AreValues, word}
+use Rattle.cdl_values.specs.History.{IsTime, IsValue, AreValues, word}
 use Rattle.cdl_pass.specs.declared.net.Node.{Node}
 use Rattle.cdl_pass.specs.declared.net.Action.{Action}
-use Rattle.cdl_pass.specs.Windows.{window, ins_of, state_of, Lies, OnlyState}
+use Rattle.cdl_pass.specs.Windows.{window, ins_of, state_of, OnlyState}
 use Rattle.cdl_pass.specs.Net.{Blocks, Net, AllAt, Fits, Laid, Names, Reads, Writes, sort_at}
-use Rattle.cdl_pass.specs.Tick.{Past, Valuation, Starts, Solves, Fault, NoFault, FirstFault, has_fault, lacks, ready, words_from}
+use Rattle.cdl_pass.specs.Tick.{Past, Valuation, Starts, Solves, NoFault, lacks, ready, words_from}
 use Rattle.cdl_pass.specs.Absorb.{MayAbsorb, Absorbed, Moved, Stood, longer}
 use Rattle.cdl_pass.proofs.Ready.{by_lt, by_bool, word_in, drop_later, ready_all, value_some, ins_words}
 use Rattle.cdl_pass.proofs.Passing.{DirectOnly, one_there, there, within, same_meets, same_fault, state_kept}

@@ -1,14 +1,14 @@
 -- The pass keeps what it has made true.
-use Rattle.std.proofs.Common.{ℕ, nat_le, zero, suc, ◌+◌, ◌-◌, ◌<◌, ◌≤◌, ◌≡◌, ◌⊎◌, refl, sym, ap, ◌∙◌, subst, Bool, true, false, cond, not, ◌&&◌, ℤ, List, [], ◌∷◌, length, take, drop, get_or, arith, Option, Some, None, slice_get, inl, inr, IfSome, nat_lt}
-use Rattle.std.proofs.lemmas.Bool.{false≢true, lt-leb, le-leb, lt-ltb}
+use Rattle.std.proofs.Common.{ℕ, nat_le, zero, suc, ◌+◌, ◌-◌, ◌<◌, ◌≤◌, ◌≡◌, ◌⊎◌, refl, sym, ap, ◌∙◌, subst, Bool, true, false, cond, ℤ, List, [], ◌∷◌, length, take, drop, get_or, arith, Option, Some, None, slice_get, inl, inr, IfSome, nat_lt}
+use Rattle.std.proofs.lemmas.Bool.{false≢true, lt-leb, le-leb}
 use Rattle.cdl_values.specs.declared.value.ValueType.{ValueType}
-use Rattle.cdl_values.specs.History.{History, Signature, IsValue, IsHistory, IsLater, word, SameDirect, no_value}
+use Rattle.cdl_values.specs.History.{History, IsValue, SameDirect, no_value}
 use Rattle.cdl_pass.specs.declared.net.Node.{Node}
 use Rattle.cdl_pass.specs.declared.net.Action.{Action}
-use Rattle.cdl_pass.specs.Windows.{window, state_of}
-use Rattle.cdl_pass.specs.Net.{Blocks, Net, AllAt, Fits, Laid, Planned, Names, Reads, Writes, sort_at}
+use Rattle.cdl_pass.specs.Windows.{state_of}
+use Rattle.cdl_pass.specs.Net.{Blocks, Net, Fits, Laid, Planned, Names, Reads, Writes, sort_at}
 use Rattle.cdl_pass.specs.Tick.{Valuation, Past, words_from, ready, given, lacks, has_fault, out_word, Gives, Meets, Solves, Fault, FaultIs, FirstFault, NoFault, Starts, IsTyped, lesser, lesser_of, spent, spent_in, Typed, Passed}
-use Rattle.cdl_pass.proofs.Ready.{by_lt, by_bool, same_ready, same_words, length-words_from, word_from, drop_later}
+use Rattle.cdl_pass.proofs.Ready.{by_lt, by_bool, same_ready, length-words_from, word_from, drop_later}
 
 -- the inputs that are not direct have no part in the meaning
 abbrev pub DirectOnly : {B : Type 0} → Blocks B → Type 0

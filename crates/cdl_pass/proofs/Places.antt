@@ -1,5 +1,5 @@
 -- A window that was written, and the words around it.
-use Rattle.std.proofs.Common.{ℕ, ◌+◌, ◌-◌, ◌≤◌, ◌≡◌, refl, sym, ap, ◌∙◌, ℤ, List, [], ◌∷◌, ◌++◌, length, take, drop, arith, rules, append_assoc, length-take, take-append-drop, subst, Option, Some, None, Result, Ok, Err, MatchResult}
+use Rattle.std.proofs.Common.{ℕ, ◌+◌, ◌≤◌, ◌≡◌, refl, sym, ap, ◌∙◌, ℤ, List, ◌++◌, length, take, drop, arith, append_assoc, length-take, take-append-drop, Option, Some, None, Result, MatchResult}
 use Rattle.std.proofs.lemmas.List.{take-take, drop-drop, take_at, drop_at, drop-take}
 use Rattle.std.proofs.Math.Seq.{drop-append-le}
 use Rattle.cdl_pass.specs.Windows.{Lies, OnlyOuts, OnlyState, ins_of, outs_of, state_of}

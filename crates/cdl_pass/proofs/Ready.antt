@@ -1,15 +1,15 @@
 -- Words and values of windows, and what an emission makes of them.
-use Rattle.std.proofs.Common.{ℕ, zero, suc, ◌+◌, ◌-◌, ◌<◌, ◌≤◌, ◌≡◌, ◌⊎◌, inl, inr, refl, sym, ap, ◌∙◌, subst, Bool, true, false, not, ◌&&◌, cond, ℤ, pos, negsuc, unsigned_abs, List, [], ◌∷◌, length, take, drop, get_or, replicate, arith, length-take, length-drop, Option, Some, None, nat_lt}
-use Rattle.std.proofs.lemmas.List.{take-take, drop-drop, drop-take, get_or-take, get_or-drop, get_or-replicate}
-use Rattle.std.proofs.lemmas.Bool.{cases_lt, false≢true, lt-ltb}
+use Rattle.std.proofs.Common.{ℕ, zero, suc, ◌+◌, ◌-◌, ◌<◌, ◌≤◌, ◌≡◌, inl, inr, refl, sym, ap, ◌∙◌, subst, Bool, true, false, not, ◌&&◌, ℤ, pos, unsigned_abs, List, [], ◌∷◌, length, take, drop, replicate, arith, length-take, length-drop, Some, None, nat_lt}
+use Rattle.std.proofs.lemmas.List.{drop-drop, get_or-take, get_or-drop, get_or-replicate}
+use Rattle.std.proofs.lemmas.Bool.{cases_lt, false≢true}
 use Rattle.std.proofs.lemmas.Bool.Decides.{Decides-int_eq}
 use Rattle.cdl_values.specs.declared.value.ValueType.{ValueType}
 use Rattle.cdl_values.specs.declared.value.ValueType.TheVariants.{Boolean, Integer, Real, Str, Enumeration}
-use Rattle.cdl_values.specs.History.{History, Signature, IsValue, word, AreReady, AreValues, no_value}
+use Rattle.cdl_values.specs.History.{History, IsValue, word, AreReady, AreValues, no_value}
 use Rattle.cdl_pass.specs.declared.net.Node.{Node}
-use Rattle.cdl_pass.specs.Windows.{window, ins_of, outs_of, state_of, Lies, OnlyOuts}
+use Rattle.cdl_pass.specs.Windows.{window, ins_of, outs_of, OnlyOuts}
 use Rattle.cdl_pass.specs.Net.{Blocks, Fits, sort_at}
-use Rattle.cdl_pass.specs.Tick.{Valuation, is_none, words_from, ready, given, lacks, has_fault, out_word, IsTyped}
+use Rattle.cdl_pass.specs.Tick.{Valuation, is_none, words_from, ready, given, has_fault, out_word, IsTyped}
 
 pub by_lt : {P : Type 0} (m n : ℕ) → (m < n → P) → (n ≤ m → P) → P
 by_lt {P} m n f g = elim (cases_lt m n) as (λ _. P) [ inl h ↦ f h | inr h ↦ g h ]

@@ -1,13 +1,11 @@
 -- States before the first tick, and sound states.
-use Rattle.std.proofs.Common.{ℕ, zero, suc, ◌+◌, ◌<◌, ◌≤◌, ◌≡◌, refl, sym, ap, ◌∙◌, subst, ℤ, ◌<ℤ◌, negsuc, List, [], ◌∷◌, length, take, drop, arith, Option, Some, None, slice_get}
-use Rattle.cdl_values.specs.History.{History, Tick, tick, IsHistory, IsLater, last_time, word}
+use Rattle.std.proofs.Common.{ℕ, ◌+◌, ◌<◌, ◌≡◌, sym, ap, ◌∙◌, ℤ, negsuc, List, [], length, arith, Some, slice_get}
 use Rattle.cdl_pass.specs.declared.net.Node.{Node}
-use Rattle.cdl_pass.specs.Windows.{window, ins_of, state_of, OnlyState}
-use Rattle.cdl_pass.specs.Net.{Blocks, Net, AllAt, Fits, Laid, Planned}
-use Rattle.cdl_pass.specs.Tick.{Valuation, Past, Starts, Solves, NoFault, FirstFault, words_from}
-use Rattle.cdl_pass.specs.Absorb.{Stood, Began, Checked, FirstUnsound, longer}
-use Rattle.cdl_pass.proofs.Ready.{by_lt, ins_words, same_words}
-use Rattle.cdl_pass.proofs.Passing.{DirectOnly, agree_all, one_there}
+use Rattle.cdl_pass.specs.Windows.{state_of, OnlyState}
+use Rattle.cdl_pass.specs.Net.{Blocks, Net, Laid}
+use Rattle.cdl_pass.specs.Absorb.{Began, Checked, FirstUnsound}
+use Rattle.cdl_pass.proofs.Ready.{by_lt}
+use Rattle.cdl_pass.proofs.Passing.{one_there}
 use Rattle.cdl_pass.proofs.Absorbing.{window_before}
 
 pub began_start : {B : Type 0} {m : Blocks B} {n : Net B} {w : List ℤ} → Began m n 0 w

@@ -1,6 +1,6 @@
 -- What the second pass makes true: each state stands for one tick more.
-use Rattle.std.specs.Prelude.{ℕ, ◌+◌, ◌<◌, ◌≤◌, ◌≡◌, ℤ, negsuc, List, [], ◌∷◌, length, take, Option, Some, slice_get}
-use Rattle.cdl_values.specs.History.{History, Tick, IsHistory, tick}
+use Rattle.std.specs.Prelude.{ℕ, ◌<◌, ◌≤◌, ◌≡◌, ℤ, negsuc, List, [], ◌∷◌, length}
+use Rattle.cdl_values.specs.History.{History, IsHistory, tick}
 use Rattle.cdl_pass.specs.declared.net.Node.{Node}
 use Rattle.cdl_pass.specs.Windows.{ins_of, state_of}
 use Rattle.cdl_pass.specs.Net.{Blocks, Net, AllAt}

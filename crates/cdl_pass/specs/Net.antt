@@ -1,5 +1,5 @@
 -- A net: its blocks, the windows of its instances, and the steps of a tick in the order of the plan.
-use Rattle.std.specs.Prelude.{ℕ, ◌+◌, ◌<◌, ◌≤◌, ◌≡◌, ◌⊎◌, ℤ, Bool, nat_lt, List, length, Option, Some, slice_get, slice_index_or}
+use Rattle.std.specs.Prelude.{ℕ, ◌+◌, ◌<◌, ◌≤◌, ◌≡◌, ℤ, nat_lt, List, length, Option, Some, slice_get, slice_index_or}
 use Rattle.cdl_values.specs.declared.value.ValueType.{ValueType}
 use Rattle.cdl_values.specs.History.{History, Signature}
 use Rattle.cdl_pass.specs.declared.net.Node.{Node}

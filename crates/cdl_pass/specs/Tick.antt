@@ -2,7 +2,7 @@
 use Rattle.std.specs.Prelude.{ℕ, zero, suc, ◌+◌, ◌<◌, ◌≤◌, ◌≡◌, ◌⊎◌, ℤ, Bool, true, false, not, ◌&&◌, cond, nat_le, List, [], ◌∷◌, length, Option, Some, None, slice_get}
 use Rattle.std.specs.Ordering.{int_eq}
 use Rattle.cdl_values.specs.declared.value.ValueType.{ValueType}
-use Rattle.cdl_values.specs.History.{History, Signature, IsHistory, IsLater, IsValue, no_value, word}
+use Rattle.cdl_values.specs.History.{History, IsHistory, IsLater, IsValue, no_value, word}
 use Rattle.cdl_pass.specs.declared.net.Node.{Node}
 use Rattle.cdl_pass.specs.declared.net.Action.{Action}
 use Rattle.cdl_pass.specs.Windows.{state_of}

@@ -1,5 +1,5 @@
 -- Windows of a region of words.
-use Rattle.std.specs.Prelude.{ℕ, zero, suc, ◌+◌, ◌≤◌, ◌≡◌, ℤ, List, [], ◌∷◌, length, take, drop}
+use Rattle.std.specs.Prelude.{ℕ, ◌+◌, ◌≤◌, ◌≡◌, ℤ, List, take, drop}
 use Rattle.cdl_pass.specs.declared.net.Node.{Node}
 
 -- n words from a place on

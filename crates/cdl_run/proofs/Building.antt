@@ -1,21 +1,19 @@
 -- The lists of a runner, made item by item.
-use Rattle.std.proofs.Common.{ℕ, zero, suc, ◌+◌, ◌-◌, ◌<◌, ◌≤◌, ◌≡◌, ◌⊎◌, ◌&&◌, inl, inr, refl, sym, ap, ◌∙◌, subst, arith, ℤ, Bool, true, false, cond, not, List, [], ◌∷◌, ◌++◌, filter, length, map, sum, take, get_or, Option, Some, None, slice_get}
+use Rattle.std.proofs.Common.{ℕ, zero, suc, ◌+◌, ◌<◌, ◌≤◌, ◌≡◌, ◌&&◌, refl, sym, ap, ◌∙◌, subst, arith, ℤ, Bool, true, false, cond, not, List, [], ◌∷◌, ◌++◌, filter, length, map, sum, take, get_or, Some, slice_get}
 use Rattle.std.proofs.Math.Seq.{take-suc}
 use Rattle.std.proofs.lemmas.Bool.{false≢true}
 use Rattle.std.proofs.lemmas.List.{map-append}
-use Rattle.std.proofs.lemmas.Option.{slice_get_within}
 use Rattle.std.specs.Prelude.{◌↔◌, OnOk, Result, Ok, Err}
 use Rattle.cdl_values.specs.History.{History}
 use Rattle.cdl_values.specs.declared.value.Array.{Array}
 use Rattle.cdl_values.specs.declared.value.ValueType.{ValueType}
 use Rattle.cdl_kinds.specs.declared.kind.Kind.{Kind}
-use Rattle.cdl_kinds.specs.Conditions.{Keeps}
 use Rattle.cdl_kinds.specs.Ports.{inputs, outputs}
 use Rattle.cdl_kinds.specs.Meanings.{meaning}
 use Rattle.cdl_kinds.specs.States.{IsSound, Stands}
 use Rattle.cdl_kinds.specs.StateWords.{state_words}
 use Rattle.cdl_network.specs.Lists.{In, numbers}
-use Rattle.cdl_network.specs.Dependence.{is_of, is_root_input, root_inputs}
+use Rattle.cdl_network.specs.Dependence.{is_of}
 use Rattle.cdl_connect.specs.declared.net.Net.{Net}
 use Rattle.cdl_connect.specs.declared.net.NetElement.{NetElement}
 use Rattle.cdl_connect.specs.declared.net.NetInstance.{NetInstance}
@@ -30,10 +28,9 @@ use Rattle.cdl_run.proofs.Laying.{numbers_in}
 use Rattle.cdl_pass.specs.declared.net.Node.{Node}
 use Rattle.cdl_pass.specs.Net.{Blocks}
 use Rattle.cdl_pass.proofs.Ready.{by_lt}
-use Rattle.cdl_run.specs.Words.{elementary_below, is_root_output, root_outputs, state_place}
-use Rattle.cdl_run.specs.inner.Laid.{AreBuilt, ArePlaced, AreRanks, IsBlock, IsPlaced, node_of, rank, row_types}
+use Rattle.cdl_run.specs.Words.{elementary_below, state_place}
+use Rattle.cdl_run.specs.inner.Laid.{AreBuilt, AreRanks, IsBlock, IsPlaced, node_of, rank}
 use Rattle.cdl_run.proofs.Laying.{sum_split}
-use Rattle.cdl_run.proofs.Ranks.{of_rank}
 
 -- one item more
 numbers_after : (a t : ℕ) → numbers a (suc t) ≡ numbers a t ++ (a + t) ∷ []

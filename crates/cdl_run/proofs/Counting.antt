@@ -1,6 +1,6 @@
 -- A tick emits each elementary instance once.
-use Rattle.std.proofs.Common.{ℕ, zero, suc, ◌+◌, ◌-◌, ◌<◌, ◌≤◌, ◌≡◌, ◌⊎◌, ◌==◌, inl, inr, refl, sym, ap, ◌∙◌, subst, arith, Bool, true, false, cond, List, [], ◌∷◌, ◌++◌, filter, length, map, Option, Some, None, slice_get}
-use Rattle.std.proofs.lemmas.Bool.{eqb-true, eqb-false, false≢true}
+use Rattle.std.proofs.Common.{ℕ, zero, suc, ◌<◌, ◌≤◌, ◌≡◌, ◌⊎◌, ◌==◌, inl, inr, refl, sym, ap, ◌∙◌, subst, arith, true, false, cond, List, [], ◌∷◌, length, Some, slice_get}
+use Rattle.std.proofs.lemmas.Bool.{eqb-true, eqb-false}
 use Rattle.std.proofs.lemmas.Option.{slice_get_within}
 use Rattle.cdl_values.specs.declared.value.ValueType.{ValueType}
 use Rattle.cdl_network.specs.Lists.{Apart, In, numbers}
@@ -11,13 +11,13 @@ use Rattle.cdl_connect.proofs.Networks.{apart_numbers}
 use Rattle.cdl_pass.specs.declared.net.Action.{Action}
 use Rattle.cdl_pass.specs.declared.net.Node.{Node}
 use Rattle.cdl_pass.specs.Net.{Blocks}
-use Rattle.cdl_pass.specs.Tick.{spent, spent_in}
+use Rattle.cdl_pass.specs.Tick.{spent_in}
 use Rattle.cdl_pass.proofs.Ready.{by_bool, by_lt}
 use Rattle.cdl_schedule.specs.declared.steps.Step.{Step}
 use Rattle.cdl_schedule.specs.declared.steps.Step.TheVariants.{Input, Copy, Emit}
 use Rattle.cdl_schedule.specs.Passes.{IsStep}
 use Rattle.cdl_run.specs.Words.{elementary_below}
-use Rattle.cdl_run.specs.inner.Laid.{action_of, element_types, rank, row_types}
+use Rattle.cdl_run.specs.inner.Laid.{action_of, rank}
 use Rattle.cdl_run.specs.inner.Setting.{IsSet}
 use Rattle.cdl_run.proofs.Laying.{numbers_in, planned, step_at}
 use Rattle.cdl_run.proofs.Ranks.{rank_at, rank_rises}

@@ -1,40 +1,36 @@
 -- A runner's lists are laid out, and its steps are a plan.
-use Rattle.std.proofs.Common.{ℕ, zero, suc, ◌+◌, ◌-◌, ◌<◌, ◌≤◌, ◌≡◌, ◌⊎◌, ◌||◌, inl, inr, refl, sym, ap, ◌∙◌, subst, arith, Bool, true, false, cond, List, [], ◌∷◌, ◌++◌, filter, length, map, sum, Option, Some, None, slice_get}
+use Rattle.std.proofs.Common.{ℕ, zero, suc, ◌+◌, ◌<◌, ◌≤◌, ◌≡◌, ◌||◌, inl, inr, refl, sym, ap, ◌∙◌, subst, arith, Bool, true, false, cond, List, [], ◌∷◌, ◌++◌, length, map, sum, Option, Some, None, slice_get}
 use Rattle.std.specs.List.{fold}
 use Rattle.std.specs.Prelude.{nat_lt, slice_index_or}
 use Rattle.std.proofs.lemmas.Bool.{false≢true, eqb-true, lt-ltb, le-ltb}
 use Rattle.std.proofs.lemmas.Option.{slice_get_within}
 use Rattle.cdl_source.specs.declared.rules.TheConstants.{TWO_SOURCES_OR_SINKS, TYPES_DIFFER, UNITS_DIFFER}
 use Rattle.cdl_values.specs.History.{Signature}
-use Rattle.cdl_values.specs.declared.value.Array.{Array}
 use Rattle.cdl_values.specs.declared.value.ValueType.{ValueType}
 use Rattle.cdl_values.specs.declared.value.ValueType.TheVariants.{Boolean, Integer, Real, Str, Enumeration}
-use Rattle.cdl_kinds.specs.declared.kind.Kind.{Kind}
 use Rattle.cdl_kinds.specs.Ports.{inputs, outputs}
 use Rattle.cdl_kinds.specs.StateWords.{state_words}
 use Rattle.cdl_kinds.specs.Table.{row}
 use Rattle.cdl_network.specs.Lists.{In, numbers}
 use Rattle.cdl_network.specs.Network.{Wire}
-use Rattle.cdl_network.specs.Dependence.{Row, From, HasOrigin, direct_of, outputs_of, root_inputs}
-use Rattle.cdl_network.specs.Rules.{goes, same_type, sink_of, source_of, units_differ, wire_fault}
+use Rattle.cdl_network.specs.Dependence.{Row, From, HasOrigin, root_inputs}
+use Rattle.cdl_network.specs.Rules.{goes, same_type, units_differ, wire_fault}
 use Rattle.cdl_network.proofs.Checking.{none_of}
 use Rattle.cdl_network.proofs.Places.{in_numbers}
 use Rattle.cdl_connect.specs.declared.net.Net.{Net}
 use Rattle.cdl_connect.specs.declared.net.NetElement.{NetElement}
-use Rattle.cdl_connect.specs.declared.net.NetInstance.{NetInstance}
 use Rattle.cdl_connect.specs.Nets.{element, network_of, words_at, words_of}
 use Rattle.cdl_connect.proofs.Networks.{none_first}
-use Rattle.cdl_connect.proofs.Windows.{IsOf, direct_are, outputs_are}
+use Rattle.cdl_connect.proofs.Windows.{direct_are, outputs_are}
 use Rattle.cdl_pass.specs.declared.net.Action.{Action}
 use Rattle.cdl_pass.specs.declared.net.Node.{Node}
 use Rattle.cdl_pass.specs.Net.{Blocks, Fits, Laid, Names, Planned, net_of, sort_at}
 use Rattle.cdl_pass.specs.Net as pass
-use Rattle.cdl_pass.specs.Windows.{Lies}
 use Rattle.cdl_pass.proofs.Passing.{there, one_there}
 use Rattle.cdl_pass.proofs.Ready.{by_bool, by_lt}
 use Rattle.cdl_schedule.specs.declared.steps.Step.{Step}
 use Rattle.cdl_schedule.specs.declared.steps.Step.TheVariants.{Input, Copy, Emit}
-use Rattle.cdl_schedule.specs.Passes.{IsPass, IsStep, Reads, Writes}
+use Rattle.cdl_schedule.specs.Passes.{IsStep, Reads, Writes}
 use Rattle.cdl_schedule.proofs.Loops.{has_inside, reads_are, some_at}
 use Rattle.cdl_run.specs.Words.{elementary_below, state_place}
 use Rattle.cdl_run.specs.inner.Laid.{IsPlaced, action_of, element_types, node_of, rank, row_types}

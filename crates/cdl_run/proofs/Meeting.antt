@@ -1,43 +1,37 @@
 -- A pass that meets its equations meets those of the network.
-use Rattle.std.proofs.Common.{ℕ, zero, suc, ◌+◌, ◌-◌, ◌<◌, ◌≤◌, ◌≡◌, ◌⊎◌, inl, inr, refl, sym, ap, ◌∙◌, subst, arith, ℤ, pos, Bool, true, false, cond, List, [], ◌∷◌, length, map, get_or, Option, Some, None, slice_get}
-use Rattle.std.specs.Prelude.{slice_index_or}
-use Rattle.std.proofs.lemmas.Bool.{false≢true, cases_lt}
+use Rattle.std.proofs.Common.{ℕ, zero, suc, ◌+◌, ◌<◌, ◌≤◌, ◌≡◌, refl, sym, ap, ◌∙◌, subst, arith, ℤ, true, false, List, [], ◌∷◌, length, map, get_or, Option, Some, None, slice_get}
 use Rattle.std.proofs.lemmas.Option.{slice_get_within}
-use Rattle.cdl_values.specs.History.{History, IsHistory, IsLater, IsTime, IsValue, AreValues, no_value, word}
+use Rattle.cdl_values.specs.History.{IsHistory, IsLater, IsTime, no_value, word}
 use Rattle.cdl_values.specs.declared.value.Array.{Array}
 use Rattle.cdl_values.specs.declared.value.ValueType.{ValueType}
 use Rattle.cdl_kinds.specs.declared.kind.Kind.{Kind}
 use Rattle.cdl_kinds.specs.Meanings.{meaning}
 use Rattle.cdl_kinds.specs.Ports.{inputs, outputs}
-use Rattle.cdl_network.specs.Lists.{In, first_that, numbers}
-use Rattle.cdl_network.specs.Dependence.{Origin, Row, From, Out, HasOrigin, inputs_of, outputs_of, root_inputs}
+use Rattle.cdl_network.specs.Lists.{numbers}
+use Rattle.cdl_network.specs.Dependence.{Origin, Row, From, Out, HasOrigin, root_inputs}
 use Rattle.cdl_network.specs.Ticks.{Meets, Seen, Tick, answer, first_fault, given as given_word, history, is_faulty, rule}
 use Rattle.cdl_network.proofs.Inside.{and_both}
 use Rattle.cdl_network.proofs.Places.{first_number, no_number, of_slice_numbers}
 use Rattle.cdl_connect.specs.declared.net.Net.{Net}
 use Rattle.cdl_connect.specs.declared.net.NetInstance.{NetInstance}
-use Rattle.cdl_connect.specs.Nets.{element, network_of}
-use Rattle.cdl_connect.proofs.Networks.{below_all}
+use Rattle.cdl_connect.specs.Nets.{network_of}
 use Rattle.cdl_connect.proofs.Windows.{IsOf, of_kind, outputs_are}
 use Rattle.cdl_pass.specs.declared.net.Action.{Action}
 use Rattle.cdl_pass.specs.declared.net.Node.{Node}
-use Rattle.cdl_pass.specs.Net.{Blocks, Net as PassNet, net_of, sort_at}
+use Rattle.cdl_pass.specs.Net.{Blocks, net_of}
 use Rattle.cdl_pass.specs.Tick.{Fault, FirstFault, IsTyped, NoFault, Solves, given, has_fault, is_none, out_word}
-use Rattle.cdl_pass.specs.Tick as pass
-use Rattle.cdl_pass.proofs.Passing.{there, one_there}
+use Rattle.cdl_pass.proofs.Passing.{there}
 use Rattle.cdl_pass.proofs.Ready.{by_bool, none_no_value, value_some}
-use Rattle.cdl_schedule.specs.declared.steps.Step.{Step}
 use Rattle.cdl_schedule.specs.declared.steps.Step.TheVariants.{Input, Copy, Emit}
-use Rattle.cdl_schedule.specs.Passes.{IsPass, IsStep, Writes}
 use Rattle.cdl_schedule.specs.inner.Passed.{step_by}
 use Rattle.cdl_schedule.proofs.Loops.{has_inside, some_at}
 use Rattle.cdl_schedule.proofs.Passing.{only_origin, step_origin}
 use Rattle.cdl_run.specs.Words.{elementary_below}
 use Rattle.cdl_run.specs.Runs.{IsRow}
-use Rattle.cdl_run.specs.inner.Laid.{IsPlaced, action_of, element_types, node_of, rank}
+use Rattle.cdl_run.specs.inner.Laid.{IsPlaced, action_of, element_types, rank}
 use Rattle.cdl_run.specs.inner.Setting.{IsSet, past_at}
 use Rattle.cdl_run.proofs.Ranks.{of_rank, rank_at, rank_rises}
-use Rattle.cdl_run.proofs.Typing.{answers_typed, output_type, type_is}
+use Rattle.cdl_run.proofs.Typing.{answers_typed}
 use Rattle.cdl_run.proofs.Values.{Windowed, answer_is, fault_is, none_value, seen_by, some_value}
 
 pub mapped : {X Y : Type 0} (f : X → Y) (xs : List X) (j : ℕ) (x : X) → slice_get xs j ≡ Some x → slice_get (map f xs) j ≡ Some (f x)

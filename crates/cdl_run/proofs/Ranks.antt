@@ -1,7 +1,6 @@
 -- The elementary instances of a net, in preorder, and the number of each among them.
-use Rattle.std.proofs.Common.{ℕ, zero, suc, ◌+◌, ◌-◌, ◌<◌, ◌≤◌, ◌≡◌, refl, sym, ap, ◌∙◌, subst, arith, Bool, true, false, cond, inl, inr, List, [], ◌∷◌, ◌++◌, filter, length, Option, Some, None, slice_get}
-use Rattle.std.proofs.lemmas.Option.{slice_get_within}
-use Rattle.cdl_network.specs.Lists.{In, numbers}
+use Rattle.std.proofs.Common.{ℕ, suc, ◌+◌, ◌-◌, ◌<◌, ◌≡◌, refl, ap, ◌∙◌, arith, Bool, true, cond, List, [], ◌∷◌, ◌++◌, filter, length, Some, slice_get}
+use Rattle.cdl_network.specs.Lists.{numbers}
 use Rattle.cdl_network.proofs.Checking.{apart_filter, once}
 use Rattle.cdl_network.proofs.Inside.{in_filter, in_slice, kept_true}
 use Rattle.cdl_network.proofs.Places.{filter_both, numbers_split}

@@ -1,42 +1,39 @@
 -- From tick to tick: what stands before a tick stands after it, with the tick.
-use Rattle.std.proofs.Common.{ℕ, zero, suc, ◌+◌, ◌-◌, ◌<◌, ◌≤◌, ◌≡◌, ◌⊎◌, inl, inr, refl, sym, ap, ◌∙◌, subst, arith, ℤ, pos, negsuc, ◌<ℤ◌, Bool, true, false, cond, List, [], ◌∷◌, ◌++◌, length, take, drop, map, get_or, Option, Some, None, slice_get}
+use Rattle.std.proofs.Common.{ℕ, suc, ◌+◌, ◌<◌, ◌≤◌, ◌≡◌, refl, sym, ap, ◌∙◌, subst, arith, ℤ, negsuc, ◌<ℤ◌, true, List, [], ◌∷◌, ◌++◌, length, take, drop, Some, slice_get}
 use Rattle.std.proofs.lemmas.Option.{slice_get_within}
-use Rattle.cdl_values.specs.History.{History, IsHistory, IsLater, IsTime, IsValue, Meaning, Signature, tick, word}
+use Rattle.cdl_values.specs.History.{History, IsHistory, IsLater, IsValue, Meaning, Signature, tick, word}
 use Rattle.cdl_values.specs.declared.value.Array.{Array}
 use Rattle.cdl_values.specs.declared.value.ValueType.{ValueType}
 use Rattle.cdl_kinds.specs.declared.kind.Kind.{Kind}
 use Rattle.cdl_kinds.specs.Meanings.{meaning}
-use Rattle.cdl_kinds.specs.Ports.{inputs, outputs}
+use Rattle.cdl_kinds.specs.Ports.{inputs}
 use Rattle.cdl_kinds.specs.States.{Stands}
 use Rattle.cdl_kinds.specs.StateWords.{state_words}
-use Rattle.cdl_network.specs.Lists.{In, numbers}
 use Rattle.cdl_network.specs.Dependence.{inputs_of}
-use Rattle.cdl_network.specs.Ticks.{Runs, Seen, Solves as NetworkSolves, Tick, Valuation, after, fault_of, first_fault, history, seen, words}
+use Rattle.cdl_network.specs.Ticks.{Seen, Tick, after, history, seen, words}
 use Rattle.cdl_network.proofs.Checking.{planned_of}
 use Rattle.cdl_network.proofs.Solving.{after_more, runs_off, runs_on}
 use Rattle.cdl_connect.specs.declared.net.Net.{Net}
 use Rattle.cdl_connect.specs.declared.net.NetInstance.{NetInstance}
 use Rattle.cdl_connect.specs.declared.net.Body.{Body}
 use Rattle.cdl_connect.specs.declared.net.Body.TheVariants.{Composite, Elementary}
-use Rattle.cdl_connect.specs.Nets.{element, is_block, is_elementary, network_of, words_at, words_of}
+use Rattle.cdl_connect.specs.Nets.{is_block, is_elementary, network_of, words_at, words_of}
 use Rattle.cdl_connect.proofs.Networks.{net_closed, net_shaped, none_first}
-use Rattle.cdl_connect.proofs.Windows.{IsOf, direct_alone, inputs_are, of_kind}
+use Rattle.cdl_connect.proofs.Windows.{IsOf, direct_alone, inputs_are}
 use Rattle.cdl_pass.specs.declared.net.Action.{Action}
 use Rattle.cdl_pass.specs.declared.net.Node.{Node}
 use Rattle.cdl_pass.specs.Absorb.{Stood, longer}
 use Rattle.cdl_pass.specs.Net.{AllAt, Blocks, net_of, sort_at}
-use Rattle.cdl_pass.specs.Tick.{FirstFault, IsTyped, NoFault, Solves, Starts, words_from}
+use Rattle.cdl_pass.specs.Tick.{FirstFault, NoFault, Starts}
 use Rattle.cdl_pass.specs.Windows.{ins_of, state_of, window}
 use Rattle.cdl_pass.proofs.Passing.{there}
 use Rattle.cdl_pass.proofs.Ready.{value_some, words_are}
 use Rattle.cdl_run.specs.Words.{elementary_below, state_at, state_place, valuation}
-use Rattle.cdl_run.specs.Runs.{AreShown, HasFault, IsRow, RunStands, StandsFor, last_time}
-use Rattle.cdl_run.specs.inner.Laid.{IsPlaced, element_types, node_of, rank}
+use Rattle.cdl_run.specs.Runs.{AreShown, HasFault, RunStands, StandsFor, last_time}
+use Rattle.cdl_run.specs.inner.Laid.{IsPlaced, element_types, rank}
 use Rattle.cdl_run.specs.inner.Setting.{IsSet, past_at}
-use Rattle.cdl_run.proofs.Meeting.{Now, calm, first, get_there, is_of, meets, past_is, seat, windowed}
-use Rattle.cdl_run.proofs.Ranks.{of_rank}
-use Rattle.cdl_run.proofs.Typing.{type_is}
-use Rattle.cdl_run.proofs.Values.{seen_by, words_known}
+use Rattle.cdl_run.proofs.Meeting.{Now, calm, first, get_there, is_of, meets, past_is, seat}
+use Rattle.cdl_run.proofs.Values.{words_known}
 
 -- the instance of a block
 pub instance_of : {B : Type 0} {m : Blocks B} {n : Net} {bs : List B} {ps : List Node} {actions : List Action} {kinds rows : List ValueType} (s : IsSet m n bs ps actions kinds rows) (j : ℕ) (b : B) (p : Node) → slice_get bs j ≡ Some b → slice_get ps j ≡ Some p → (i : ℕ) × (slice_get (elementary_below n (length n.instances)) j ≡ Some i) × IsPlaced m n i b p

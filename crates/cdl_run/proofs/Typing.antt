@@ -1,14 +1,14 @@
 -- Types of elements and of what instances give.
-use Rattle.std.proofs.Common.{ℕ, zero, suc, ◌+◌, ◌-◌, ◌<◌, ◌≤◌, ◌≡◌, ◌⊎◌, inl, inr, refl, sym, ap, ◌∙◌, subst, arith, ℤ, pos, Bool, true, false, cond, List, [], ◌∷◌, length, map, Option, Some, None, slice_get, unsigned_abs}
+use Rattle.std.proofs.Common.{ℕ, zero, suc, ◌+◌, ◌-◌, ◌<◌, ◌≡◌, inl, inr, refl, sym, ap, ◌∙◌, subst, arith, ℤ, pos, true, false, cond, List, [], ◌∷◌, length, map, Option, Some, None}
 use Rattle.std.specs.Prelude.{slice_index_or}
 use Rattle.std.proofs.lemmas.Bool.{false≢true, lt-ltb, le-ltb}
-use Rattle.cdl_values.specs.History.{History, IsHistory, IsLater, IsTime, IsValue, AreValues, no_value, word}
+use Rattle.cdl_values.specs.History.{IsHistory, IsLater, IsTime, IsValue, AreValues}
 use Rattle.cdl_values.specs.declared.value.Array.{Array}
 use Rattle.cdl_values.specs.declared.value.ValueType.{ValueType}
 use Rattle.cdl_values.specs.declared.value.ValueType.TheVariants.{Boolean, Integer, Real, Str, Enumeration}
 use Rattle.cdl_kinds.specs.declared.kind.Kind.{Kind}
 use Rattle.cdl_kinds.specs.Meanings.{meaning}
-use Rattle.cdl_kinds.specs.Ports.{inputs, outputs, nin_or_nout, port_among, port_at}
+use Rattle.cdl_kinds.specs.Ports.{inputs, outputs, nin_or_nout, port_among}
 use Rattle.cdl_kinds.specs.Table.{row}
 use Rattle.cdl_kinds.proofs.Listing.{among_is}
 use Rattle.cdl_kind_laws.proofs.TypedOutputs.{outputs_typed}
@@ -23,7 +23,7 @@ use Rattle.cdl_connect.specs.WellFormed.{is_plain}
 use Rattle.cdl_connect.proofs.Windows.{IsOf, inputs_are, meaning_is}
 use Rattle.cdl_pass.specs.Net.{sort_at}
 use Rattle.cdl_pass.specs.Tick.{IsTyped, is_none}
-use Rattle.cdl_pass.proofs.Ready.{by_bool, none_no_value, value_some}
+use Rattle.cdl_pass.proofs.Ready.{none_no_value, value_some}
 use Rattle.cdl_run.specs.inner.Laid.{element_types}
 use Rattle.cdl_run.proofs.Values.{none_value, seen_by, some_value, word_at, words_length}
 

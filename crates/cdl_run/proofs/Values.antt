@@ -1,16 +1,15 @@
 -- Words and valuations: what an instance gives by the words is what it gives in the network.
-use Rattle.std.proofs.Common.{ℕ, zero, suc, ◌+◌, ◌-◌, ◌<◌, ◌≤◌, ◌≡◌, ◌⊎◌, ◌&&◌, inl, inr, refl, sym, ap, ◌∙◌, subst, arith, ℤ, pos, Bool, true, false, cond, not, List, [], ◌∷◌, length, map, Option, Some, None, slice_get}
+use Rattle.std.proofs.Common.{ℕ, zero, suc, ◌+◌, ◌<◌, ◌≡◌, ◌&&◌, refl, sym, ap, ◌∙◌, arith, ℤ, true, false, cond, not, List, [], ◌∷◌, length, Option, Some, None}
 use Rattle.std.proofs.lemmas.Bool.{false≢true}
-use Rattle.cdl_values.specs.History.{History, IsHistory, IsLater, IsTime, IsValue, AreValues, Meaning, SameDirect, Signature, no_value, word}
+use Rattle.cdl_values.specs.History.{History, Meaning, word}
 use Rattle.cdl_values.specs.declared.value.Array.{Array}
-use Rattle.cdl_values.specs.declared.value.ValueType.{ValueType}
 use Rattle.cdl_kinds.specs.declared.kind.Kind.{Kind}
 use Rattle.cdl_kinds.specs.Meanings.{meaning}
-use Rattle.cdl_kinds.specs.Ports.{inputs, outputs}
+use Rattle.cdl_kinds.specs.Ports.{inputs}
 use Rattle.cdl_kinds.specs.Table.{row}
 use Rattle.cdl_kind_laws.proofs.Direct.{direct_only}
-use Rattle.cdl_network.specs.Lists.{In, has_some, numbers}
-use Rattle.cdl_network.specs.Dependence.{direct_of, inputs_of, outputs_of}
+use Rattle.cdl_network.specs.Lists.{has_some, numbers}
+use Rattle.cdl_network.specs.Dependence.{direct_of, inputs_of}
 use Rattle.cdl_network.specs.Ticks.{Seen, Tick, Valuation, answer, both, history, is_faulty, lacks, strict, values, word_of, words}
 use Rattle.cdl_connect.specs.declared.net.Net.{Net}
 use Rattle.cdl_connect.specs.declared.net.NetInstance.{NetInstance}

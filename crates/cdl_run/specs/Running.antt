@@ -1,12 +1,11 @@
 -- What contracts see of a runner.
-use Rattle.std.specs.Prelude.{ℕ, ◌<◌, ◌≡◌, ◌≤◌, ℤ, true, List, length, Option, None, Some, slice_get}
+use Rattle.std.specs.Prelude.{ℕ, ◌<◌, ◌≡◌, ℤ, List, Option, None, Some, slice_get}
 use Rattle.cdl_kinds.specs.States.{IsSound}
 use Rattle.cdl_network.specs.Ticks.{Tick}
 use Rattle.cdl_connect.specs.declared.net.Net.{Net}
 use Rattle.cdl_connect.specs.declared.net.NetInstance.{NetInstance}
 use Rattle.cdl_connect.specs.declared.net.Body.{Body}
 use Rattle.cdl_connect.specs.declared.net.Body.TheVariants.{Composite, Elementary}
-use Rattle.cdl_connect.specs.Nets.{network_of}
 use Rattle.cdl_run.specs.Runs.{RunStands}
 use Rattle.cdl_run.specs.Words.{state_at}
 

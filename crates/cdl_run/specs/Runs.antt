@@ -1,6 +1,6 @@
 -- What a runner stands for.
-use Rattle.std.specs.Prelude.{ℕ, ◌<◌, ◌≡◌, ℤ, negsuc, List, [], ◌∷◌, ◌++◌, length, Option, Some, None, slice_get}
-use Rattle.cdl_values.specs.History.{History, IsHistory, IsTime, IsValue, word}
+use Rattle.std.specs.Prelude.{ℕ, ◌<◌, ◌≡◌, ℤ, negsuc, List, [], ◌∷◌, ◌++◌, length, Some, slice_get}
+use Rattle.cdl_values.specs.History.{History, IsHistory, IsValue, word}
 use Rattle.cdl_kinds.specs.Meanings.{meaning}
 use Rattle.cdl_kinds.specs.Ports.{inputs}
 use Rattle.cdl_kinds.specs.States.{Stands}

@@ -1,5 +1,5 @@
 -- A runner's lists beside its net.
-use Rattle.std.specs.Prelude.{ℕ, ◌<◌, ◌≡◌, true, List, length, map, get_or}
+use Rattle.std.specs.Prelude.{ℕ, ◌≡◌, List, length, map, get_or}
 use Rattle.cdl_values.specs.declared.value.ValueType.{ValueType}
 use Rattle.cdl_network.specs.Dependence.{NoLoop}
 use Rattle.cdl_network.specs.Ticks.{Seen, history}

@@ -1,10 +1,10 @@
-use Rattle.std.proofs.Common.{rules, arith, ◌≡◌, ◌+◌, ◌<◌, ◌≤◌, ℕ, length, ◌∙◌, sym, ap, get_or, ℤ, List}
+use Rattle.std.proofs.Common.{arith, ◌≡◌, length, ◌∙◌, get_or}
 use Rattle.std.proofs.lemmas.Int.{to_z-of_z}
 use Rattle.std.specs.Int.{w64}
 use Rattle.cdl_pass.specs.declared.net.Node.{Node}
 use Rattle.cdl_pass.specs.Windows.{ins_of}
 use Rattle.cdl_pass.proofs.Passing.{here, at, within, resized}
-use Rattle.cdl_pass.proofs.Absorbing.{ins_kept, values_in, moved_start, absorbed_start, moved_next, absorbed_next, kept_next}
+use Rattle.cdl_pass.proofs.Absorbing.{ins_kept, values_in, moved_next, absorbed_next, kept_next}
 use Rattle.cdl_pass.proofs.absorb.absorb_all.Goals as goal
 
 abbrev node0 : Node

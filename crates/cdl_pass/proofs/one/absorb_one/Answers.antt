@@ -1,8 +1,7 @@
-use Rattle.std.proofs.Common.{arith, rules, sym, ap, ◌∙◌, ◌≡◌, ◌+◌, ◌-◌, length, ◌++◌, ℤ, List, drop, take, subst}
+use Rattle.std.proofs.Common.{arith, rules, ap, ◌≡◌, ◌+◌, ◌-◌, length, ℤ, List, take}
 use Rattle.std.proofs.lemmas.Int.{to_z-of_z}
 use Rattle.std.specs.Int.{w64}
-use Rattle.cdl_values.specs.History.{IsLater, IsHistory, Tick}
-use Rattle.cdl_pass.specs.Windows.{OnlyState, ins_of, state_of}
+use Rattle.cdl_pass.specs.Windows.{state_of}
 use Rattle.cdl_pass.proofs.Places.{only_state, ins_first}
 use Rattle.cdl_pass.proofs.one.absorb_one.Goals as goal
 

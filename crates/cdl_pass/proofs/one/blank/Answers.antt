@@ -1,5 +1,4 @@
-use Rattle.std.proofs.Common.{arith, rules, ◌≡◌, length}
-use Rattle.cdl_pass.specs.Windows.{OnlyOuts}
+use Rattle.std.proofs.Common.{rules, ◌≡◌, length}
 use Rattle.cdl_pass.proofs.Places.{only_outs, after_blank}
 use Rattle.cdl_pass.proofs.one.blank.Goals as goal
 

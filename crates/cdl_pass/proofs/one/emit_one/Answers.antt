@@ -1,9 +1,8 @@
-use Rattle.std.proofs.Common.{arith, rules, sym, ap, ◌∙◌, ◌≡◌, ◌+◌, ◌-◌, length, ◌++◌, ℤ, List, drop, take}
+use Rattle.std.proofs.Common.{arith, rules, sym, ap, ◌≡◌, ◌+◌, ◌-◌, length, ℤ, List, take}
 use Rattle.std.proofs.lemmas.Int.{to_z-of_z}
 use Rattle.std.specs.Int.{w64}
-use Rattle.cdl_values.specs.History.{IsLater}
-use Rattle.cdl_pass.specs.Windows.{OnlyOuts, outs_of, ins_of, state_of}
-use Rattle.cdl_pass.proofs.Places.{put, after_emit, only_outs, ins_there, moved}
+use Rattle.cdl_pass.specs.Windows.{state_of}
+use Rattle.cdl_pass.proofs.Places.{after_emit, only_outs, ins_there, moved}
 use Rattle.cdl_pass.proofs.one.emit_one.Goals as goal
 
 pub returns-clause-only : goal.returns-clause-only

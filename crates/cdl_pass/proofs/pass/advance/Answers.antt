@@ -1,11 +1,10 @@
-use Rattle.std.proofs.Common.{rules, arith, ◌≡◌, ◌+◌, ◌<◌, ℕ, length, ◌∙◌, sym, true, false, ap, subst, get_or, ℤ}
+use Rattle.std.proofs.Common.{arith, ◌<◌, ℕ, length, ◌∙◌, sym, subst, get_or}
 use Rattle.std.proofs.lemmas.Int.{to_z-of_z}
 use Rattle.std.specs.Int.{w64}
 use Rattle.cdl_values.specs.History.{word, IsValue}
 use Rattle.cdl_pass.specs.declared.net.Node.{Node}
-use Rattle.cdl_pass.specs.declared.net.Action.{Action}
-use Rattle.cdl_pass.specs.Net.{Reads, Writes, sort_at, blocks_of, net_of}
-use Rattle.cdl_pass.specs.Tick.{Past, IsTyped}
+use Rattle.cdl_pass.specs.Net.{sort_at, blocks_of, net_of}
+use Rattle.cdl_pass.specs.Tick.{IsTyped}
 use Rattle.cdl_pass.proofs.Ready.{ready_all, value_some}
 use Rattle.cdl_pass.proofs.Passing.{none_of, first_none, lacks_none, here, at, gives_at, fault_at, lesser_inside, written_at}
 use Rattle.cdl_pass.proofs.pass.advance.Goals as goal

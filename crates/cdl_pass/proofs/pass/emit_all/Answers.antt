@@ -1,11 +1,10 @@
-use Rattle.std.proofs.Common.{rules, arith, ◌≡◌, ◌+◌, ◌<◌, ◌≤◌, ℕ, length, ◌∙◌, sym, true, false, ap, subst, get_or, ℤ, Option, None}
+use Rattle.std.proofs.Common.{arith, ℕ, ◌∙◌, get_or, Option}
 use Rattle.std.proofs.lemmas.Int.{to_z-of_z}
 use Rattle.std.specs.Int.{w64}
 use Rattle.cdl_values.specs.History.{word}
 use Rattle.cdl_pass.specs.declared.net.Action.{Action}
-use Rattle.cdl_pass.specs.Net.{blocks_of, net_of, Blocks, Net}
-use Rattle.cdl_pass.specs.Tick.{Past}
-use Rattle.cdl_pass.proofs.Passing.{at, resized, passed_start, typed_start, passed_next, typed_next, all_solved, all_typed, all_values, first_fault, no_fault, agree_all, starts_kept, state_kept, spent_next, found, found_none, none_found}
+use Rattle.cdl_pass.specs.Net.{blocks_of, net_of}
+use Rattle.cdl_pass.proofs.Passing.{at, passed_next, typed_next, all_solved, all_typed, all_values, first_fault, no_fault, agree_all, starts_kept, state_kept, spent_next, found, found_none, none_found}
 use Rattle.cdl_pass.proofs.pass.emit_all.Goals as goal
 
 pub advance-least-requires-clause-sound : goal.advance-least-requires-clause-sound

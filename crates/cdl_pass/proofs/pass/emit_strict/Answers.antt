@@ -1,9 +1,9 @@
-use Rattle.std.proofs.Common.{rules, arith, ◌≡◌, ◌+◌, ◌<◌, ℕ, length, ◌∙◌, sym, true, false, inl, inr, ap}
+use Rattle.std.proofs.Common.{◌≡◌, ◌∙◌, true, false, inl}
 use Rattle.std.proofs.lemmas.Int.{to_z-of_z}
 use Rattle.std.specs.Int.{w64}
 use Rattle.cdl_values.specs.History.{word}
 use Rattle.cdl_pass.specs.Tick.{ready}
-use Rattle.cdl_pass.proofs.Ready.{ready_is, typed_outs, others_of, drop_later, blank_outs, gives_value, gives_none, gives_missing}
+use Rattle.cdl_pass.proofs.Ready.{ready_is, others_of, drop_later, blank_outs, gives_value, gives_none, gives_missing}
 use Rattle.cdl_pass.proofs.pass.emit_strict.Goals as goal
 
 pub emit_one-requires-clause-ready : goal.emit_one-requires-clause-ready

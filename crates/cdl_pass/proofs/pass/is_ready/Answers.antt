@@ -1,6 +1,6 @@
-use Rattle.std.proofs.Common.{rules, arith, ◌≡◌, ◌+◌, ◌-◌, ◌<◌, ◌∙◌, sym, false, true, not, ◌&&◌, ap}
+use Rattle.std.proofs.Common.{arith, ◌≡◌, ◌+◌, ◌∙◌, sym, false}
 use Rattle.cdl_values.specs.History.{word}
-use Rattle.cdl_pass.specs.Tick.{ready, is_none}
+use Rattle.cdl_pass.specs.Tick.{is_none}
 use Rattle.cdl_pass.proofs.Ready.{ready_at}
 use Rattle.cdl_pass.proofs.pass.is_ready.Goals as goal
 

@@ -1,4 +1,4 @@
-use Rattle.std.proofs.Common.{◌≡◌, ◌+◌, ◌-◌, ◌≤◌}
+use Rattle.std.proofs.Common.{◌≡◌, ◌+◌, ◌-◌}
 use Rattle.cdl_values.specs.History.{word}
 use Rattle.cdl_pass.specs.Tick.{ready}
 use Rattle.cdl_pass.proofs.pass.is_ready.Given as goal

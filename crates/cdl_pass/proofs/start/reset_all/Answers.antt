@@ -1,7 +1,7 @@
-use Rattle.std.proofs.Common.{rules, arith, ◌≡◌, ◌+◌, ◌<◌, ℕ, length, ◌∙◌, sym, get_or}
+use Rattle.std.proofs.Common.{arith, length, ◌∙◌}
 use Rattle.cdl_pass.specs.declared.net.Node.{Node}
 use Rattle.cdl_pass.proofs.Passing.{here, at, within, resized}
-use Rattle.cdl_pass.proofs.Running.{began_start, began_next}
+use Rattle.cdl_pass.proofs.Running.{began_next}
 use Rattle.cdl_pass.proofs.start.reset_all.Goals as goal
 
 abbrev node0 : Node

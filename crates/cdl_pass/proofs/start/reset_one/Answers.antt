@@ -1,4 +1,4 @@
-use Rattle.std.proofs.Common.{arith, rules, ◌≡◌, length}
+use Rattle.std.proofs.Common.{rules, ◌≡◌, length}
 use Rattle.cdl_pass.proofs.Places.{only_state}
 use Rattle.cdl_pass.proofs.start.reset_one.Goals as goal
 

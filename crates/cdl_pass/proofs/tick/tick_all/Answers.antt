@@ -1,8 +1,7 @@
-use Rattle.std.proofs.Common.{rules, arith, ◌≡◌, ◌+◌, ◌<◌, ◌≤◌, ℕ, length, ◌∙◌, sym, ap, ℤ, List}
+use Rattle.std.proofs.Common.{◌≡◌, ◌<◌, ℕ, length, ◌∙◌, sym, ℤ, List}
 use Rattle.std.proofs.lemmas.Int.{to_z-of_z}
 use Rattle.std.specs.Int.{w64}
 use Rattle.cdl_values.specs.History.{word}
-use Rattle.cdl_pass.specs.Net.{blocks_of, net_of}
 use Rattle.cdl_pass.proofs.Passing.{resized, state_kept}
 use Rattle.cdl_pass.proofs.Absorbing.{word_kept, solves_kept, no_fault_kept, may_absorb, stood_of}
 use Rattle.cdl_pass.proofs.tick.tick_all.Goals as goal

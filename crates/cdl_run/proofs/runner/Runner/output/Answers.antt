@@ -1,4 +1,4 @@
-use Rattle.std.proofs.Common.{◌<◌, ap, arith, subst, sym, length}
+use Rattle.std.proofs.Common.{◌<◌, subst, sym, length}
 use Rattle.cdl_run.proofs.Ticking.{output_inside}
 use Rattle.cdl_run.specs.Words.{root_outputs}
 use Rattle.cdl_run.proofs.runner.Runner.output.Goals as goal

@@ -1,5 +1,4 @@
-use Rattle.std.proofs.Common.{ℤ, List, ◌++◌, ◌∷◌, [], ◌<ℤ◌, ◌∙◌, ap, arith, length, subst, sym}
-use Rattle.std.specs.List.{refill}
+use Rattle.std.proofs.Common.{◌++◌, ◌∷◌, [], ◌<ℤ◌, ◌∙◌, ap, arith, length, subst, sym}
 use Rattle.std.proofs.lemmas.Int.{to_z-of_z}
 use Rattle.std.specs.Int.{w64}
 use Rattle.std.proofs.Common.{of_z, to_z}
