@@ -32,3 +32,7 @@ is_root_output n x = not ((network_of n).input x) && not (has_some ((network_of 
 
 abbrev pub root_outputs : Net → List ℕ
 root_outputs n = filter (is_root_output n) (network_of n).elements
+
+-- how many instances are elementary
+abbrev pub elementary_count : Net → ℕ
+elementary_count n = length (elementary_below n (length n.instances))

@@ -8,7 +8,7 @@ ghost use Rattle.cdl_connect.specs.declared.net.NetInstance.{NetInstance as Inst
 ghost use Rattle.cdl_connect.specs.Nets.{network_of};
 ghost use Rattle.cdl_connect.specs.WellFormed.{IsWellFormed};
 ghost use Rattle.cdl_run.specs.inner.AnyBlocks.{any_blocks};
-ghost use Rattle.cdl_run.specs.Words.{root_outputs, state_place};
+ghost use Rattle.cdl_run.specs.Words.{elementary_count, root_outputs, state_place};
 ghost use Rattle.cdl_run.specs.Runs.{HasFault, IsRow, tick_at};
 ghost use Rattle.cdl_run.specs.Running.{Stands};
 ghost use Rattle.cdl_run.specs.inner.Ready.{IsFixed};
@@ -136,6 +136,8 @@ impl Runner {
         requires row { IsRow self.old.net row.now }
         ensures net { self.new.net ≡ self.old.net }
         ensures size { length self.new.words ≡ length self.old.words }
+        ensures step { OnOk result (steps.new ≡ steps.old + elementary_count self.old.net) }
+        ensures few { steps.new ≤ steps.old + elementary_count self.old.net }
         ensures ok { (ts : List Tick) → Stands self.old ts → OnOk result (Stands self.new (ts ++ tick_at now row.now ∷ [])) }
         ensures fault { (ts : List Tick) → Stands self.old ts → IfErr result (λ f. HasFault self.old.net ts (tick_at now row.now) f.instance) }
         ensures kept { IfErr result (λ f. self.new.fault ≡ Some f.instance) }

@@ -10,6 +10,11 @@ use Rattle.cdl_run.specs.inner.AnyBlocks.{any_blocks}
 use Rattle.cdl_run.specs.Runs.{HasFault, IsRow, RunStands, tick_at}
 use Rattle.cdl_run.specs.Running.{Stands}
 use Rattle.cdl_run.proofs.Ticking.{fault_at, laid_at, moved, next_ready, none_fault, planned_at, refill_all, row_at, tick_fault, tick_ok}
+use Rattle.std.proofs.Common.{◌+◌, List}
+use Rattle.cdl_pass.specs.declared.net.Action.{Action}
+use Rattle.cdl_pass.specs.Tick.{spent_in}
+use Rattle.cdl_run.specs.Words.{elementary_count}
+use Rattle.cdl_run.proofs.Counting.{one_emit_each}
 use Rattle.cdl_run.proofs.runner.Runner.tick.Goals as goal
 
 pub tick_all-requires-clause-laid : goal.tick_all-requires-clause-laid
@@ -74,3 +79,23 @@ returns-in-Err-clause-fault g c = λ ts s.
     let i = fault_at _ _ c.in-Err.fault.block c.index.result.now (omega (arith, a, b, d, e)) c.self.invariant.0.instances c.index.ensures in
     subst (λ x. HasFault x.net ts (tick_at c.args.now c.args.row.now) c.index.result.now) c.self.view_is
     (tick_fault c.args.now c.args.row.now c.tick_all.new.words c.in-Err.fault.block c.index.result.now c.self.invariant.0.set row c.requires.time later typed r.run solves fault i)
+
+pub returns-in-Ok-clause-step : goal.returns-in-Ok-clause-step
+returns-in-Ok-clause-step g c =
+    let a = ap (λ (xs : List Action). spent_in xs (length xs)) c.deref-3.ensures.value in
+    let e = one_emit_each c.self.invariant.0.set in
+    c.in-Ok.ensures.step ∙ ap (λ k. c.args.steps.now + k) (a ∙ e ∙ ap (λ r. elementary_count r.net) c.self.view_is)
+
+pub returns-in-Ok-clause-few : goal.returns-in-Ok-clause-few
+returns-in-Ok-clause-few g c =
+    let a = ap (λ (xs : List Action). spent_in xs (length xs)) c.deref-3.ensures.value in
+    let e = one_emit_each c.self.invariant.0.set in
+    let s = a ∙ e ∙ ap (λ r. elementary_count r.net) c.self.view_is in
+    omega (arith, c.in-Ok.ensures.few, s)
+
+pub returns-in-Err-clause-few : goal.returns-in-Err-clause-few
+returns-in-Err-clause-few g c =
+    let a = ap (λ (xs : List Action). spent_in xs (length xs)) c.deref-3.ensures.value in
+    let e = one_emit_each c.self.invariant.0.set in
+    let s = a ∙ e ∙ ap (λ r. elementary_count r.net) c.self.view_is in
+    omega (arith, c.in-Err.ensures.few, s)
