@@ -14,6 +14,7 @@ only before a loop: c-1 iB n02 iB oB a03 iB iB oB w001 w023 w054 = loop at 2
 the loop's least instance in the middle: c-0 n02 iB oB n02 iB oB n02 iB oB w030 w034 w052 = loop at 2
 two loops, the first one's wires last: c-0 n02 iB oB n02 iB oB w032 w010 = loop at 1
 a loop through a part: c-0 c02 iB oB n12 iB oB w010 w102 w131 = loop at 1
+a loop through ten parts in one another: c-0 c02 iB oB c12 iB oB c22 iB oB c32 iB oB c42 iB oB c52 iB oB c62 iB oB c72 iB oB c82 iB oB c92 iB oB na2 iB oB w010 w102 w131 w224 w253 w346 w375 w468 w497 w58a w5b9 w6ac w6db w7ce w7fd w8eg w8hf w9gi w9jh waik walj = loop at 1
 a loop in a part: c-0 c00 n12 iB oB w110 = loop at 2
 a Pre that reads its own output: c-0 p02 iB oB w010 = order 1
 a loop through a Pre: c-0 n02 iB oB p02 iB oB w012 w030 = order 2 1
