@@ -2,6 +2,7 @@ pub mod Table
 pub mod Names
 pub mod Parameters
 pub mod Ports
+pub mod Groups
 pub mod Conditions
 pub mod StateWords
 pub mod Meaning

@@ -3,6 +3,7 @@
 
 mod conditions;
 mod elementary;
+mod groups;
 mod kind;
 mod parameter;
 mod params;
@@ -14,10 +15,11 @@ mod table;
 
 pub use conditions::check;
 pub use elementary::Elementary;
+pub use groups::{input_groups, output_groups};
 pub use kind::{Kind, find, kind_name};
 pub use parameter::{Parameter, Preset, parameters};
 pub use params::{KindFault, Params};
 pub use port_list::{port, port_count};
-pub use ports::Port;
+pub use ports::{Group, Port};
 pub use state_size::state_words;
 pub use steps::Steps;

@@ -16,11 +16,14 @@ pub struct Port {
     pub direct: bool,
 }
 
-// Ports of one name: a scalar one, or one for each of nin or nout.
+/// Ports of one name: a scalar one, or one for each of nin or nout.
 #[derive(Clone, Copy, Drop)]
 pub struct Group {
+    /// Their name, without an index.
     pub name: &'static str,
+    /// The type of their values.
     pub value_type: ValueType,
+    /// Whether there is one for each of nin or nout.
     pub many: bool,
 }
 
