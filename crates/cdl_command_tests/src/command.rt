@@ -1,4 +1,6 @@
 // Jobs over files and sinks in memory.
+ghost use Rattle.std.specs.Prelude.{◌≡◌, ◌≤◌, ◌^◌, IfOk};
+
 use crate::marks::bytes_of;
 use cdl_command::command;
 use cdl_source::{MemFiles, MemSink, Text};
@@ -162,28 +164,59 @@ fn words_of(alloc: Global, text: &str) -> Result<Vec<String>, Fail> {
     Ok(words)
 }
 
-// What a job ends with while these calls fail: the code, and the texts on the two sinks.
-fn end_of(alloc: Global, given: &Given<'_>, devices: Devices) -> Result<Text, Fail> {
-    let words = words_of(alloc, given.words)?;
+// The files of a job.
+fn files_of(alloc: Global, given: &Given<'_>, devices: Devices) -> Result<MemFiles, Fail>
+    ensures { IfOk result (λ files. files.begun ≡ 0) }
+{
     let mut files = MemFiles::new(alloc);
     files.put("m.mo", given.model)?;
     files.put("s.mo", given.other)?;
     files.put("t.csv", given.table)?;
     files.piece(devices.read.max(1));
     files.fail(devices.files)?;
-    let mut out = MemSink::new(alloc, devices.write.max(1), 4096)?;
-    out.fail(devices.out)?;
-    let mut err = MemSink::new(alloc, 4096, 4096)?;
-    err.fail(devices.err)?;
-    let outcome = command(alloc, &words, &mut files, &mut out, &mut err);
-    let mut code = Buffer::new();
+    Ok(files)
+}
+
+// A sink that takes pieces of so many bytes, and whose call of that number fails.
+fn sink_of(alloc: Global, piece: usize, failing: u64) -> Result<MemSink, Fail> {
+    let mut sink = MemSink::new(alloc, piece.max(1), 4096)?;
+    sink.fail(failing)?;
+    Ok(sink)
+}
+
+// The code that the job ends with.
+fn code_of(
+    alloc: Global,
+    words: &[String],
+    files: &mut MemFiles,
+    out: &mut MemSink,
+    err: &mut MemSink,
+) -> u8
+    requires { files.old.begun ≤ 2 ^ 32 }
+{
+    command(alloc, words, files, out, err).code()
+}
+
+// A code and the texts on the two sinks.
+fn text_of(alloc: Global, code: u8, out: &[u8], err: &[u8]) -> Result<Text, Fail> {
+    let mut digits = Buffer::new();
     let mut end = Text::new(alloc);
-    end.push(code.format(outcome.code()).as_bytes())?;
+    end.push(digits.format(code).as_bytes())?;
     end.push(b"~")?;
-    end.push(out.bytes())?;
+    end.push(out)?;
     end.push(b"~")?;
-    end.push(err.bytes())?;
+    end.push(err)?;
     Ok(end)
+}
+
+// What a job ends with while these calls fail: the code, and the texts on the two sinks.
+fn end_of(alloc: Global, given: &Given<'_>, devices: Devices) -> Result<Text, Fail> {
+    let words = words_of(alloc, given.words)?;
+    let mut files = files_of(alloc, given, devices)?;
+    let mut out = sink_of(alloc, devices.write, devices.out)?;
+    let mut err = sink_of(alloc, 4096, devices.err)?;
+    let code = code_of(alloc, &words, &mut files, &mut out, &mut err);
+    text_of(alloc, code, out.bytes(), err.bytes())
 }
 
 // Whether the job of this case ends with what is marked.
