@@ -102,6 +102,13 @@ impl Params {
         self.values.items()
     }
 
+    /// The values, given up. It takes no memory.
+    pub fn into_values(self) -> List<Array>
+        ensures { result ≡ self }
+    {
+        self.values
+    }
+
     /// The value of `nin` or `nout` where the kind has one of them, the first of its parameters.
     pub fn size(&self) -> usize
         ensures size { result ≡ nin_or_nout self.now }

@@ -1,10 +1,11 @@
 // The block of each kind without a memory.
-ghost use Rattle.std.specs.Prelude.{◌≡◌, ◌↔◌, ◌<◌, ℤ, List, true};
+ghost use Rattle.std.specs.Prelude.{◌≡◌, ◌↔◌, ◌<◌, ℤ, List, length, true};
 ghost use Rattle.cdl_kinds.specs.declared.kind.Kind.TheVariants.{IntegersMultiSum, RealsMultiSum};
 ghost use Rattle.cdl_kinds.specs.Conditions.{Keeps};
 ghost use Rattle.cdl_kinds.specs.Meanings.{MayLack, meaning};
 ghost use Rattle.cdl_kinds.specs.Ports.{inputs, outputs, nin_or_nout};
 ghost use Rattle.cdl_values.specs.History.{History};
+ghost use Rattle.cdl_values.specs.Values.{items_at};
 ghost use Rattle.cdl_kinds.specs.StateWords.{state_words};
 ghost use Rattle.cdl_kinds.specs.States.{IsSound, Stands};
 ghost use Rattle.cdl_memoryless.specs.MemorylessKinds.{is_memoryless};
@@ -21,7 +22,8 @@ use crate::sources::{Choice, Constant, IntegerToReal, RealToInteger, Replicator}
 use crate::sums::{IntegerSum, RealSum};
 use crate::whole::Whole;
 use cdl_kinds::{Elementary, Kind, Params};
-use cdl_values::ValueType;
+use cdl_source::List;
+use cdl_values::{Value, ValueType};
 
 /// Whether the blocks of the kind have no memory: they have no state words, and don't look at the time.
 pub fn is_memoryless(kind: Kind) -> bool
@@ -121,22 +123,41 @@ fn extreme(op: ExtremeOp, params: &Params) -> Extreme
     }
 }
 
+// The items of the last of two parameters.
+#[tactic(auto, using(crate::proofs::Factors::last_of_two))]
+fn into_factors(params: Params) -> List<Value>
+    requires { length params ≡ 2 }
+    ensures { result ≡ items_at params 1 }
+{
+    let mut values = params.into_values();
+    match values.pop() {
+        Some(array) => array.items,
+        None => unreachable!(),
+    }
+}
+
 // The sum with the factors of the second parameter.
 #[tactic(auto, using(crate::proofs::Factors::integer_factors))]
 fn integer_sum(params: Params) -> IntegerSum
     requires { Keeps IntegersMultiSum params }
-    ensures { result.params ≡ params }
+    ensures factors { result.factors ≡ items_at params 1 }
+    ensures inputs { length result.factors ≡ nin_or_nout params }
 {
-    IntegerSum { params }
+    IntegerSum {
+        factors: into_factors(params),
+    }
 }
 
 // The sum with the factors of the second parameter.
 #[tactic(auto, using(crate::proofs::Factors::real_factors))]
 fn real_sum(params: Params) -> RealSum
     requires { Keeps RealsMultiSum params }
-    ensures { result.params ≡ params }
+    ensures factors { result.factors ≡ items_at params 1 }
+    ensures inputs { length result.factors ≡ nin_or_nout params }
 {
-    RealSum { params }
+    RealSum {
+        factors: into_factors(params),
+    }
 }
 
 impl MemorylessBlock {

@@ -6,26 +6,14 @@ ghost use Rattle.cdl_decimal.specs.Near.{InRange};
 ghost use Rattle.cdl_values.specs.History.{integer, integers, reals, word};
 ghost use Rattle.cdl_kinds.specs.Meaning.Integers.{integer_multi_sum};
 ghost use Rattle.cdl_kinds.specs.Meaning.Reals.{real_multi_sum};
-ghost use Rattle.cdl_kinds.specs.Ports.{nin_or_nout};
-ghost use Rattle.cdl_values.specs.Values.{integer_of, integers_at, items_at, real_of, reals_at};
+ghost use Rattle.cdl_values.specs.Values.{integer_of, real_of};
 ghost use Rattle.cdl_memoryless.specs.AtOnce.{at_once};
 
 use crate::memoryless::Memoryless;
 use cdl_decimal::{Real, weighted_sum};
-use cdl_kinds::Params;
-use cdl_source::LARGEST_INTEGER;
+use cdl_source::{LARGEST_INTEGER, List};
 use cdl_values::words::{put_one, put_real, read_real};
 use cdl_values::{NoValue, Value};
-
-// The factors: the items of the second parameter.
-fn factors(params: &Params) -> &[Value]
-    ensures { result.now ≡ items_at params.now 1 }
-{
-    match params.values().get(1) {
-        Some(array) => array.items.items(),
-        None => &[],
-    }
-}
 
 // The Integer of a value; 0 where it is none.
 fn integer_of(value: &Value) -> i64
@@ -39,7 +27,7 @@ fn integer_of(value: &Value) -> i64
 }
 
 // The product of two Integers, in full.
-fn wide_product(a: i64, b: i64) -> i128
+fn full_product(a: i64, b: i64) -> i128
     requires left { unsigned_abs a ≤ 2147483648 }
     requires right { unsigned_abs b ≤ 2147483648 }
     ensures value { result ≡ a *ℤ b }
@@ -55,7 +43,7 @@ fn next_sum(sum: i128, factor: &Value, word: i64) -> i128
     ensures value { result ≡ sum +ℤ integer_of factor.now *ℤ word }
     ensures small { unsigned_abs result ≤ unsigned_abs sum + 4611686018427387904 }
 {
-    sum + wide_product(integer_of(factor), word)
+    sum + full_product(integer_of(factor), word)
 }
 
 // The sum of the products, in full.
@@ -88,27 +76,27 @@ fn put_wide(words: &mut [i64], z: i128) -> Result<(), NoValue>
     }
 }
 
-/// The sum of Integers, each times its factor, a parameter. NoValue: the sum is out of their range.
+/// The sum of Integers, each times its factor. NoValue: the sum is out of their range.
 #[derive(Drop)]
 pub struct IntegerSum {
-    pub params: Params,
-    pub ghost factors: { length (items_at params 1) ≡ nin_or_nout params },
-    pub ghost few: { nin_or_nout params ≤ 256 },
+    /// The factors, each of type Integer.
+    pub factors: List<Value>,
+    pub ghost few: { length factors ≤ 256 },
 }
 
 impl Memoryless for IntegerSum {
-    ghost inputs = { λ b. integers (nin_or_nout b.params) };
+    ghost inputs = { λ b. integers (length b.factors) };
 
     ghost results = { λ _. integers 1 };
 
-    ghost gives = { λ b. at_once (integer_multi_sum (integers_at b.params 1)) };
+    ghost gives = { λ b. at_once (integer_multi_sum (map integer_of b.factors)) };
 
     fn give(&self, ins: &[i64], outs: &mut [i64]) -> Result<(), NoValue> {
-        put_wide(outs, sum_of_products(factors(&self.params), ins))
+        put_wide(outs, sum_of_products(self.factors.items(), ins))
     }
 }
 
-fn zero() -> Real
+fn zero_real() -> Real
     ensures { result ≡ pos 0 }
 {
     match Real::from_count(0) {
@@ -123,7 +111,7 @@ fn real_of(value: &Value) -> Real
 {
     match value {
         Value::Real(x) => *x,
-        _ => zero(),
+        _ => zero_real(),
     }
 }
 
@@ -133,7 +121,7 @@ fn reals_of(words: &[i64]) -> [Real; 256]
     requires range { (i : ℕ) → i < length words.now → InRange (word words.now i) }
     ensures { take (length words.now) result ≡ words.now }
 {
-    let mut reals = [zero(); 256];
+    let mut reals = [zero_real(); 256];
     for i in 0..words.len() {
         reals[i] = read_real(words, i);
     }
@@ -145,30 +133,30 @@ fn real_factors(factors: &[Value]) -> [Real; 256]
     requires { length factors.now ≤ 256 }
     ensures { take (length factors.now) result ≡ map real_of factors.now }
 {
-    let mut reals = [zero(); 256];
+    let mut reals = [zero_real(); 256];
     for i in 0..factors.len() {
         reals[i] = real_of(&factors[i]);
     }
     reals
 }
 
-/// The sum of Reals, each times its factor, a parameter, rounded once. NoValue: the sum is out of their range.
+/// The sum of Reals, each times its factor, rounded once. NoValue: the sum is out of their range.
 #[derive(Drop)]
 pub struct RealSum {
-    pub params: Params,
-    pub ghost factors: { length (items_at params 1) ≡ nin_or_nout params },
-    pub ghost few: { nin_or_nout params ≤ 256 },
+    /// The factors, each of type Real.
+    pub factors: List<Value>,
+    pub ghost few: { length factors ≤ 256 },
 }
 
 impl Memoryless for RealSum {
-    ghost inputs = { λ b. reals (nin_or_nout b.params) };
+    ghost inputs = { λ b. reals (length b.factors) };
 
     ghost results = { λ _. reals 1 };
 
-    ghost gives = { λ b. at_once (real_multi_sum (reals_at b.params 1)) };
+    ghost gives = { λ b. at_once (real_multi_sum (map real_of b.factors)) };
 
     fn give(&self, ins: &[i64], outs: &mut [i64]) -> Result<(), NoValue> {
-        let factors = real_factors(factors(&self.params));
+        let factors = real_factors(self.factors.items());
         let terms = reals_of(ins);
         let n = ins.len();
         put_real(outs, weighted_sum(&factors[..n], &terms[..n]))
