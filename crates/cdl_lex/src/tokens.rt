@@ -51,7 +51,7 @@ impl Tokens {
         self.file
     }
 
-    /// All bytes of the text, lent: at most 524,288, and UTF-8.
+    /// All bytes of the text, lent: at most `LONGEST_MODEL`, and UTF-8.
     pub fn bytes(&self) -> &[u8]
         ensures bytes { result.now ≡ self.now.bytes }
         ensures limit { length result.now ≤ LONGEST_MODEL }
