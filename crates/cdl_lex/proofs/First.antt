@@ -1,6 +1,7 @@
 -- The first rule that a text breaks.
 use Rattle.std.proofs.Common.{◌≡◌, ◌⊎◌, inl, inr, ◌+◌, ◌<◌, ◌≤◌, ℕ, List, length, take, drop, get_or, Some, None, refl, sym, subst, arith}
 use Rattle.std.proofs.lemmas.List.{take_all}
+use Rattle.std.proofs.lemmas.Bool.{cases_lt}
 use Rattle.std.specs.Str.{IsUtf8}
 use Rattle.cdl_source.specs.declared.limits.TheConstants.{LONGEST_MODEL}
 use Rattle.cdl_source.specs.declared.rules.TheConstants.{MODEL_TOO_LONG, NOT_UTF8, NO_TOKEN, PAST_LIMITS, NESTED_TOO_DEEPLY, EXPRESSION_TOO_LONG, SYNTAX}
@@ -11,7 +12,7 @@ use Rattle.cdl_lex.specs.Found.{IsFirst}
 use Rattle.cdl_lex.specs.Rules.{IsTooLong, IsNotUtf8, IsNoToken, HasPastLimits, HasTooDeep, HasTooMany, Breaks, too_long, not_utf8, no_token, past_limits, too_deep, too_many, IsFirstBroken, BreaksNone}
 use Rattle.cdl_lex.specs.Texts.{FitLimits}
 use Rattle.cdl_lex.proofs.AtTokens.{cut_at}
-use Rattle.cdl_lex.proofs.Continues.{less_or, splits_once, splits_not_stuck, stuck_once}
+use Rattle.cdl_lex.proofs.Continues.{splits_once, splits_not_stuck, stuck_once}
 
 -- ---- what it is to break the rule of a number
 
@@ -81,7 +82,7 @@ below_1 bytes = record { none = λ lower at l b. let low = (least b).0 in absurd
 
 -- one number more
 step : (bytes : Bytes) (rule : ℕ) → NoneBelow bytes rule → ((at : ℕ) → Breaks bytes rule at → ⊥) → NoneBelow bytes (rule + 1)
-step bytes rule h f = record { none = λ lower at l b. go lower at (less_or lower rule) l b }
+step bytes rule h f = record { none = λ lower at l b. go lower at (cases_lt lower rule) l b }
   where
     go : (lower at : ℕ) → (lower < rule) ⊎ (rule ≤ lower) → lower < rule + 1 → Breaks bytes lower at → ⊥
     go lower at (inl e) l b = h.none lower at e b
@@ -132,7 +133,7 @@ first_6 bytes ts at n s h = record { broken = too_many ts s h.0; lowest = n.none
 -- ---- what the code needs besides
 
 pub short : (bytes : Bytes) → IsFirst (IsTooLong bytes) None → length bytes ≤ LONGEST_MODEL
-short bytes h = elim (less_or LONGEST_MODEL (length bytes)) [ inl l ↦ absurd (h LONGEST_MODEL (record { long = l; place = refl })) | inr l ↦ l ]
+short bytes h = elim (cases_lt LONGEST_MODEL (length bytes)) [ inl l ↦ absurd (h LONGEST_MODEL (record { long = l; place = refl })) | inr l ↦ l ]
 
 pub fit : (bytes : Bytes) (ts : List Token) → IsFirst (HasPastLimits bytes ts) None → FitLimits bytes ts
 fit bytes ts none k d l p =
