@@ -13,6 +13,10 @@ pub number_after-append : (n : ℕ) (xs ys : List ℕ) → number_after n (xs ++
 number_after-append n [] ys = refl
 number_after-append n (x ∷ xs) ys = number_after-append (n * 10 + (x - 48)) xs ys
 
+pub number_after-grows : (ds : List ℕ) (n : ℕ) → n ≤ number_after n ds
+number_after-grows [] n = omega arith
+number_after-grows (d ∷ ds) n = let h : n * 10 + (d - 48) ≤ number_after (n * 10 + (d - 48)) ds = number_after-grows ds (n * 10 + (d - 48)) in omega arith
+
 -- the digits that are left, from the next one on
 pub digit_left : (ds : List ℕ) (i : ℕ) → i < length ds → AllDigits (drop i ds) → IsDigit (get_or ds i 0) × AllDigits (drop (suc i) ds)
 digit_left [] i h a = absurd (omega arith)

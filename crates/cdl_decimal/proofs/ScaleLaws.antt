@@ -1,12 +1,13 @@
 -- A fraction of powers of ten is rounded after its powers are taken together.
-use Rattle.std.proofs.Common.{ℕ, zero, suc, ◌+◌, ◌*◌, ◌-◌, ◌^◌, ◌<◌, ◌≤◌, ◌≡◌, ◌≢◌, refl, sym, ap, ◌∙◌, Bool, true, false, arith, lit<}
+use Rattle.std.proofs.Common.{ℕ, zero, suc, ◌+◌, ◌*◌, ◌-◌, ◌^◌, ◌<◌, ◌≤◌, ◌≡◌, ◌≢◌, refl, sym, ap, subst, ◌∙◌, Bool, true, false, cond, Some, arith, lit<}
 use Rattle.std.specs.Prelude.{ℤ, pos, negsuc, neg_ℤ, ◌+ℤ◌, ◌-ℤ◌, ◌*ℤ◌, unsigned_abs, None, nat_le}
 use Rattle.std.proofs.lemmas.Int.{ints, unsigned_abs-mul}
 use Rattle.std.proofs.lemmas.Nat.{pow-add}
 use Rattle.std.proofs.lemmas.Bool.Decides.{nat_tests}
 use Rattle.std.proofs.Math.IntN.{suc_ℤ-*ℤ, *ℤ_comm, *ℤ-zero}
 use Rattle.std.proofs.Math.Nat.{mul_assoc, one-le-pow, pow-le-pow_right, mul-le-mul, mul-le-mul_left, mul-le-mul_right, le_of_mul-le-mul_right}
-use Rattle.cdl_decimal.specs.Near.{IsNear, near, in_range}
+use Rattle.cdl_source.specs.declared.limits.TheConstants.{LARGEST_REAL}
+use Rattle.cdl_decimal.specs.Near.{InRange, IsNear, near, in_range}
 use Rattle.cdl_decimal.specs.Spells.{with_sign}
 use Rattle.cdl_decimal.proofs.NearLaws.{near_is, near_one}
 
@@ -95,6 +96,13 @@ near_nothing n k small far =
     let e : unsigned_abs (n -ℤ pos 0 *ℤ pos (10 ^ k)) ≡ unsigned_abs n = omega (arith, ints) in
     let z : IsNear n (10 ^ k) (pos 0) = record { within = rw e (omega arith); even = λ h. refl } in
     near_one n (near n (10 ^ k)) (pos 0) (10 ^ k) d (near_is n (10 ^ k) d) z
+
+when_in_range : (b : Bool) (z w : ℤ) → (b ≡ true → InRange z) → cond b (Some z) None ≡ Some w → InRange w
+when_in_range true z w h e = let same : z ≡ w = cc in subst InRange same (h refl)
+when_in_range false z w h e = cc
+
+pub in_range-some : (z w : ℤ) → in_range z ≡ Some w → InRange w
+in_range-some z w e = when_in_range (nat_le (unsigned_abs z) LARGEST_REAL) z w (λ t. grind (arith, nat_tests)) e
 
 pub out_of_range : (z : ℤ) → 10000000000000000 < unsigned_abs z → in_range z ≡ None
 out_of_range z h = let t : nat_le (unsigned_abs z) 10000000000000000 ≡ false = grind (arith, nat_tests) in rw t refl

@@ -3,6 +3,7 @@ use Rattle.std.proofs.Common.{ℕ, ◌<◌, ◌≡◌, refl, sym, ap, subst, ◌
 use Rattle.std.proofs.lemmas.Bool.Decides.{nat_tests}
 use Rattle.std.proofs.lemmas.List.{take-append-drop}
 use Rattle.std.proofs.lemmas.List.Sums.{take_while-cons}
+use Rattle.std.proofs.lemmas.Bool.{and_parts, and_from}
 use Rattle.std.proofs.Math.Seq.{take-append_seam, drop-append_seam}
 use Rattle.std.specs.Char.{is_ascii_digit}
 use Rattle.std.specs.List.{prefix_len, list_all}
@@ -14,14 +15,6 @@ digit_true d h = grind (arith, nat_tests)
 
 digit_from_true : (d : ℕ) → is_ascii_digit d ≡ true → IsDigit d
 digit_from_true d h = grind (arith, nat_tests)
-
-and_true : (a b : Bool) → (a && b) ≡ true → (a ≡ true) × (b ≡ true)
-and_true true b h = (refl, h)
-and_true false b h = absurd (cc)
-
-from_and_true : (a b : Bool) → a ≡ true → b ≡ true → (a && b) ≡ true
-from_and_true true b h k = k
-from_and_true false b h k = absurd (cc)
 
 -- the digits in front
 front_step : (b : ℕ) (ds : List ℕ) (v : Bool) → is_ascii_digit b ≡ v → AllDigits ds → AllDigits (cond v (b ∷ ds) [])
@@ -35,12 +28,12 @@ front_digits (b ∷ bs) = rw (take_while-cons is_ascii_digit b bs) (front_step b
 all_digits : (ds : List ℕ) → list_all is_ascii_digit ds ≡ true → AllDigits ds
 all_digits [] h = tt
 all_digits (d ∷ ds) h =
-    let k : (is_ascii_digit d ≡ true) × (list_all is_ascii_digit ds ≡ true) = and_true (is_ascii_digit d) (list_all is_ascii_digit ds) h in
+    let k : (is_ascii_digit d ≡ true) × (list_all is_ascii_digit ds ≡ true) = and_parts (is_ascii_digit d) (list_all is_ascii_digit ds) h in
     (digit_from_true d k.0, all_digits ds k.1)
 
 list_all_digits : (ds : List ℕ) → AllDigits ds → list_all is_ascii_digit ds ≡ true
 list_all_digits [] h = refl
-list_all_digits (d ∷ ds) h = from_and_true (is_ascii_digit d) (list_all is_ascii_digit ds) (digit_true d h.0) (list_all_digits ds h.1)
+list_all_digits (d ∷ ds) h = and_from (is_ascii_digit d) (list_all is_ascii_digit ds) (digit_true d h.0) (list_all_digits ds h.1)
 
 abbrev StartsNoDigit : List ℕ → Type 0
 StartsNoDigit [] = Unit {0}
@@ -132,7 +125,7 @@ fraction_back_is s f last (point ds g) h = back_is ds last g (exponent_no_digit 
 
 -- the exponent
 numeral_true : (ds : List ℕ) → 0 < length ds → AllDigits ds → is_numeral ds ≡ true
-numeral_true ds h g = from_and_true (nat_lt 0 (length ds)) (list_all is_ascii_digit ds) (grind (arith, nat_tests)) (list_all_digits ds g)
+numeral_true ds h g = and_from (nat_lt 0 (length ds)) (list_all is_ascii_digit ds) (grind (arith, nat_tests)) (list_all_digits ds g)
 
 exponent_is : (last ds : List ℕ) (m : Bool) → IsExponent last m ds → exponent_of last ≡ Some (record { negative = m; digits = ds })
 exponent_is last ds m no_exponent = refl
@@ -142,7 +135,7 @@ exponent_is last ds m (exponent e s (x ∷ xs) n h sg some dig) =
     let b : after_sign (s ++ x ∷ xs) ≡ x ∷ xs = after_is s n x xs sg dig.0 in
     let c : is_minus (s ++ x ∷ xs) ≡ n = minus_is s n x xs sg dig.0 in
     let d : is_numeral (x ∷ xs) ≡ true = numeral_true (x ∷ xs) some dig in
-    rw (b, c, from_and_true (e == 101 || e == 69) (is_numeral (x ∷ xs)) a d) refl
+    rw (b, c, and_from (e == 101 || e == 69) (is_numeral (x ∷ xs)) a d) refl
 
 mark_from : (b : ℕ) → (b == 101 || b == 69) ≡ true → (b ≡ 69) ⊎ (b ≡ 101)
 mark_from b h = grind (arith, nat_tests)
@@ -150,8 +143,8 @@ mark_from b h = grind (arith, nat_tests)
 exponent_step : (b : ℕ) (bs : List ℕ) (v : Bool) (x : Exponent) → ((b == 101 || b == 69) && is_numeral (after_sign bs)) ≡ v → cond v (Some (record { negative = is_minus bs; digits = after_sign bs })) None ≡ Some x → IsExponent (b ∷ bs) x.negative x.digits
 exponent_step b bs false x e h = absurd (cc)
 exponent_step b bs true x e h =
-    let a : ((b == 101 || b == 69) ≡ true) × (is_numeral (after_sign bs) ≡ true) = and_true (b == 101 || b == 69) (is_numeral (after_sign bs)) e in
-    let c : (nat_lt 0 (length (after_sign bs)) ≡ true) × (list_all is_ascii_digit (after_sign bs) ≡ true) = and_true (nat_lt 0 (length (after_sign bs))) (list_all is_ascii_digit (after_sign bs)) a.1 in
+    let a : ((b == 101 || b == 69) ≡ true) × (is_numeral (after_sign bs) ≡ true) = and_parts (b == 101 || b == 69) (is_numeral (after_sign bs)) e in
+    let c : (nat_lt 0 (length (after_sign bs)) ≡ true) × (list_all is_ascii_digit (after_sign bs) ≡ true) = and_parts (nat_lt 0 (length (after_sign bs))) (list_all is_ascii_digit (after_sign bs)) a.1 in
     let some : 0 < length (after_sign bs) = grind (arith, nat_tests) in
     let s = sign_split bs in
     let made : IsExponent (b ∷ s.0 ++ after_sign bs) (is_minus bs) (after_sign bs) = exponent b s.0 (after_sign bs) (is_minus bs) (mark_from b a.0) s.1 some (all_digits (after_sign bs) c.1) in

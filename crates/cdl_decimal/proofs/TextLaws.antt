@@ -1,11 +1,13 @@
 -- The canonical text of a count is read as that count.
 use Rattle.std.proofs.Common.{ℕ, zero, suc, ◌+◌, ◌-◌, ◌*◌, ◌/◌, ◌%◌, ◌^◌, ◌<◌, ◌≤◌, ◌≡◌, refl, sym, ap, subst, ◌∙◌, Bool, true, false, cond, ◌==◌, List, [], ◌∷◌, ◌++◌, length, map, arith, lit<, lit≤, inl, inr, Ok, append_assoc}
+use Rattle.cdl_source.proofs.Options.{not_zero}
 use Rattle.std.specs.Prelude.{ℤ, pos, negsuc, ◌*ℤ◌, unsigned_abs}
 use Rattle.std.specs.Int.RustNames.{int_lt}
 use Rattle.std.specs.Int.Digits.{digits_of, number_from_digits_after, AllBelowBase}
 use Rattle.std.proofs.lemmas.Int.Digits.{digits_of_step, number_digits_of, all_below_base_digits_of, length-digits_of-le}
 use Rattle.std.proofs.lemmas.Nat.{div_below, div-add-mod', mod_below}
 use Rattle.std.proofs.lemmas.Bool.Decides.{nat_tests}
+use Rattle.std.proofs.lemmas.List.{append-nil, map-append, length-map}
 use Rattle.std.proofs.Math.Nat.{pow-suc}
 use Rattle.cdl_decimal.specs.Near.{InRange, IsNear}
 use Rattle.cdl_decimal.specs.Spells.{AllDigits, number, number_after, IsSign, none, minus, IsFraction, no_point, point, no_exponent, Parts, Spells, with_sign, IsLong, CountIs}
@@ -15,18 +17,10 @@ use Rattle.cdl_decimal.proofs.ScaleLaws.{power_positive, sign_times, near_whole}
 use Rattle.cdl_decimal.proofs.DigitLaws.{number_after-append}
 use Rattle.cdl_decimal.proofs.ParseLaws.{parses_one}
 
--- a whole number in decimal
-map_append : (xs ys : List ℕ) → map digit (xs ++ ys) ≡ map digit xs ++ map digit ys
-map_append [] ys = refl
-map_append (x ∷ xs) ys = ap (λ (zs : List ℕ). digit x ∷ zs) (map_append xs ys)
-
-not_zero : (n : ℕ) → 0 < n → (n == 0) ≡ false
-not_zero n h = grind (arith, nat_tests)
-
 decimal_positive : (n : ℕ) → 0 < n → decimal n ≡ map digit (digits_of 10 (n / 10)) ++ (48 + n % 10) ∷ []
 decimal_positive n h =
     let e : digits_of 10 n ≡ digits_of 10 (n / 10) ++ (n % 10 ∷ []) = digits_of_step 10 n (lit≤ tt) h in
-    rw (not_zero n h, e) (map_append (digits_of 10 (n / 10)) (n % 10 ∷ []))
+    rw (not_zero n h, e) (map-append digit (digits_of 10 (n / 10)) (n % 10 ∷ []))
 
 pub decimal_small : (n : ℕ) → n < 10 → decimal n ≡ (48 + n) ∷ []
 decimal_small zero h = refl
@@ -51,10 +45,6 @@ digits_map : (ds : List ℕ) → AllBelowBase 10 ds → AllDigits (map digit ds)
 digits_map [] h = tt
 digits_map (d ∷ ds) h = ((omega arith, omega (arith, h.0)), digits_map ds h.1)
 
-length_map : (ds : List ℕ) → length (map digit ds) ≡ length ds
-length_map [] = refl
-length_map (d ∷ ds) = ap suc (length_map ds)
-
 decimal_is : (n : ℕ) → 0 < n → decimal n ≡ map digit (digits_of 10 n)
 decimal_is n h = rw (not_zero n h) refl
 
@@ -67,7 +57,7 @@ positive_digits n h = subst (λ (ds : List ℕ). AllDigits ds) (sym (decimal_is 
 positive_length : (n : ℕ) → 0 < n → n < 10 ^ 20 → length (decimal n) ≤ 20
 positive_length n h small =
     let g : length (digits_of 10 n) ≤ 20 = length-digits_of-le 10 20 n (lit≤ tt) small in
-    let e : length (decimal n) ≡ length (digits_of 10 n) = ap (λ (ds : List ℕ). length ds) (decimal_is n h) ∙ length_map (digits_of 10 n) in
+    let e : length (decimal n) ≡ length (digits_of 10 n) = ap (λ (ds : List ℕ). length ds) (decimal_is n h) ∙ length-map (digits_of 10 n) digit in
     omega arith
 
 decimal_number : (n : ℕ) → number (decimal n) ≡ n
@@ -167,10 +157,6 @@ parts_of_count c = record {
 rest_small : (n : ℕ) → n % 1000000 < 10 ^ 6
 rest_small n = mod_below n 1000000 (lit< tt)
 
-append_nil : (xs : List ℕ) → xs ++ [] ≡ xs
-append_nil [] = refl
-append_nil (x ∷ xs) = ap (λ (ys : List ℕ). x ∷ ys) (append_nil xs)
-
 canon_spells : (c : ℤ) → Spells (canon c) (parts_of_count c)
 unfolding canon parts_of_count
 canon_spells c =
@@ -180,7 +166,7 @@ canon_spells c =
       sign = sign_of c;
       behind = f;
       last = [];
-      is = append_assoc (sign_of c) w f ∙ ap (λ (xs : List ℕ). sign_of c ++ (w ++ xs)) (sym (append_nil f));
+      is = append_assoc (sign_of c) w f ∙ ap (λ (xs : List ℕ). sign_of c ++ (w ++ xs)) (sym (append-nil f));
       signed = sign_is (int_lt c (pos 0));
       some = decimal_some (unsigned_abs c / 1000000);
       digits = decimal_digits (unsigned_abs c / 1000000);

@@ -33,7 +33,7 @@ impl Model for Real {
 // The product of two counts, in full.
 fn wide_product(a: Real, b: Real) -> i128
     ensures value { result ≡ a *ℤ b }
-    ensures small { unsigned_abs result ≤ 100000000000000000000000000000000 }
+    ensures small { unsigned_abs result ≤ LARGEST_REAL * LARGEST_REAL }
 {
     a.count as i128 * b.count as i128
 }
@@ -107,7 +107,7 @@ fn wide_line_upper(x1: Real, f1: Real, x2: Real, f2: Real, x: Real) -> i128
 // A million times the count, in full.
 fn wide_millionths(a: Real) -> i128
     ensures value { result ≡ a *ℤ pos 1000000 }
-    ensures small { unsigned_abs result ≤ 10000000000000000000000 }
+    ensures small { unsigned_abs result ≤ LARGEST_REAL * 1000000 }
 {
     a.count as i128 * 1_000_000
 }

@@ -5,15 +5,14 @@ use Rattle.std.specs.Int.RustNames.{int_lt}
 use Rattle.std.proofs.lemmas.Int.{ints}
 use Rattle.cdl_decimal.specs.Near.{InRange}
 use Rattle.cdl_values.specs.declared.value.ValueType.TheVariants.{Boolean, Real}
-use Rattle.cdl_values.specs.History.{AreValues, History, IsHistory, Tick, before, bit, is_on, last_time, later, reals, rises, tick, typed, word}
-use Rattle.cdl_kinds.specs.Meaning.Discrete.{caught, first_or, interval, picked, picks, sampled, sampler, samples, second_or, triggered_max, triggered_sampler, unit_delay}
+use Rattle.cdl_values.specs.History.{AreValues, History, IsHistory, before, bit, is_on, last_time, later, reals, rises, tick, typed, word}
+use Rattle.cdl_kinds.specs.Meaning.Discrete.{caught, first_or, interval, picked, sampled, sampler, samples, second_or, triggered_max, triggered_sampler, unit_delay}
 use Rattle.cdl_values.specs.Extremes.{greater_of, greatest}
 use Rattle.cdl_kinds.specs.States.{IsSamplerState, IsUnitDelayState, has_begun, last_interval}
-use Rattle.cdl_kind_laws.proofs.Past.{caught_real, first_real, greatest_real, interval_up_to, picked_reals, sampled_reals, second_real}
+use Rattle.cdl_kind_laws.proofs.Past.{caught_real, first_real, greatest_real, interval_up_to, picked_reals, sampled_reals, second_real, picked_some, interval_known}
 use Rattle.cdl_kind_laws.proofs.ValueWords.{before_value, bit_value, one_word, three_values, two_values}
 use Rattle.cdl_discrete.specs.Samples.{at_sample, greatest_next}
 use Rattle.cdl_timed.proofs.ValueStates.{bit_again}
-use Rattle.cdl_discrete.proofs.SampleIntervals.{interval_known}
 
 pub one_real : (z w : ℤ) (y : List ℤ) → y ≡ z ∷ [] → z ≡ w → InRange w → AreValues (reals 1) y
 one_real z w y e f r = rw (e, f) (record { size = refl; each = one_word Real w r })
@@ -62,14 +61,6 @@ caught_sound start s h r i e = rw e (two_values Boolean Real _ _ (before_value B
 
 pub greatest_sound : (s : List ℤ) (h : History) → IsHistory (typed (Real ∷ Boolean ∷ [])) triggered_max h → s ≡ bit (has_begun h) ∷ before (pos 1) 1 h ∷ greatest (picked h) ∷ [] → AreValues (typed (Boolean ∷ Boolean ∷ Real ∷ [])) s
 greatest_sound s h i e = rw e (three_values Boolean Boolean Real _ _ _ (bit_value (has_begun h)) (before_value Boolean (pos 1) 1 h (omega arith) refl (inr refl) i) (greatest_real (picked h) (picked_reals h (omega arith) refl i)))
-
-one_more : (b : Bool) (w : ℤ) (us : List ℤ) → 1 ≤ length us → 1 ≤ length (cond b (w ∷ us) us)
-one_more true w us l = omega arith
-one_more false w us l = l
-
-picked_some : (t : Tick) (h : History) → 1 ≤ length (picked (t ∷ h))
-picked_some t [] = omega arith
-picked_some t (a ∷ h) = one_more (picks (a ∷ h) t.ins) (word t.ins 0) (picked (a ∷ h)) (picked_some a h)
 
 greatest_more : (b : Bool) (u : ℤ) (us : List ℤ) → 1 ≤ length us → cond b (greater_of u (greatest us)) (greatest us) ≡ greatest (cond b (u ∷ us) us)
 greatest_more b u [] l = absurd (omega arith)

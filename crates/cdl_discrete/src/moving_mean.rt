@@ -1,5 +1,6 @@
 // The mean of what a trigger picked last.
 ghost use Rattle.std.specs.Prelude.{◌≡◌, ◌&&◌, ◌||◌, ◌+◌, ◌-◌, ◌*◌, ◌+ℤ◌, ◌≤ℤ◌, ◌<◌, ◌≤◌, ◌↔◌, IsTrue, ℕ, Some, [], ◌∷◌, cond, drop, length, min, not, pos, refl, take, unsigned_abs};
+ghost use Rattle.cdl_source.specs.declared.limits.TheConstants.{LARGEST_REAL};
 ghost use Rattle.cdl_decimal.specs.Counts.{real_mean, total};
 ghost use Rattle.cdl_decimal.specs.Near.{InRange};
 ghost use Rattle.cdl_values.specs.declared.value.ValueType.TheVariants.{Boolean, Real as RealType};
@@ -20,9 +21,9 @@ use std::sync::ledger::Ledger;
 fn next_sum(sum: i128, counts: &[i64], i: usize) -> i128
     requires within { i < length counts.now }
     requires range { InRange (word counts.now i) }
-    requires small { unsigned_abs sum ≤ 20000000000000000000 }
+    requires small { unsigned_abs sum ≤ LARGEST_REAL * 1024 }
     ensures value { result ≡ sum +ℤ word counts.now i }
-    ensures small { unsigned_abs result ≤ unsigned_abs sum + 10000000000000000 }
+    ensures small { unsigned_abs result ≤ unsigned_abs sum + LARGEST_REAL }
 {
     sum + read_real(counts, i).count() as i128
 }
@@ -33,7 +34,7 @@ fn sum_of(counts: &[i64]) -> i128
     requires few { length counts.now ≤ 1024 }
     requires range { (i : ℕ) → i < length counts.now → InRange (word counts.now i) }
     ensures value { result ≡ total counts.now }
-    ensures small { unsigned_abs result ≤ 10000000000000000 * length counts.now }
+    ensures small { unsigned_abs result ≤ LARGEST_REAL * length counts.now }
 {
     let mut sum: i128 = 0;
     for i in 0..counts.len() {
@@ -44,9 +45,9 @@ fn sum_of(counts: &[i64]) -> i128
 
 // The sum with one count more.
 fn sum_with(first: Real, sum: i128) -> i128
-    requires { unsigned_abs sum ≤ 20000000000000000000 }
+    requires { unsigned_abs sum ≤ LARGEST_REAL * 1024 }
     ensures value { result ≡ first +ℤ sum }
-    ensures small { unsigned_abs result ≤ 10000000000000000 + unsigned_abs sum }
+    ensures small { unsigned_abs result ≤ LARGEST_REAL + unsigned_abs sum }
 {
     first.count() as i128 + sum
 }

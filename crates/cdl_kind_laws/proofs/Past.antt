@@ -86,7 +86,7 @@ interval_at : (d : ℕ) (time : ℤ) → 0 < d → pos 0 ≤ℤ time → (pos 0 
 interval_at d (pos n) l h = (omega (arith, ints), omega (arith, ints, euclid (pos n *ℤ pos 1000) d l))
 interval_at d (negsuc n) l h = absurd (omega (arith, ints))
 
-interval_known : (period time : ℤ) → pos 0 <ℤ period → pos 0 ≤ℤ time → (pos 0 ≤ℤ interval period time) × ((interval period time *ℤ period) ≤ℤ (time *ℤ pos 1000))
+pub interval_known : (period time : ℤ) → pos 0 <ℤ period → pos 0 ≤ℤ time → (pos 0 ≤ℤ interval period time) × ((interval period time *ℤ period) ≤ℤ (time *ℤ pos 1000))
 interval_known (pos d) time p h = interval_at d time (omega (arith, ints)) h
 interval_known (negsuc d) time p h = absurd (omega (arith, ints))
 
@@ -134,7 +134,7 @@ one_more : (b : Bool) (w : ℤ) (us : List ℤ) → 1 ≤ length us → 1 ≤ le
 one_more true w us l = omega arith
 one_more false w us l = l
 
-picked_some : (t : Tick) (h : History) → 1 ≤ length (picked (t ∷ h))
+pub picked_some : (t : Tick) (h : History) → 1 ≤ length (picked (t ∷ h))
 picked_some t [] = omega arith
 picked_some t (a ∷ h) = one_more (picks (a ∷ h) t.ins) (word t.ins 0) (picked (a ∷ h)) (picked_some a h)
 

@@ -43,11 +43,11 @@ accumulating_sound (t ∷ h) s f g = record {
   some = λ _. accumulated_added t h s;
 }
 
-hold_sound : (o : Option Held) (last : ℤ) → negsuc 0 ≤ℤ last → IsHeldUpTo last o → IsHoldState (hold_words o) last
-hold_sound None last l s = record { size = refl; output = inl refl; changed = record { low = omega (arith, ints); high = l } }
-hold_sound (Some y) last l s = record { size = refl; output = bit_value y.on; changed = s }
+pub hold_words_sound : (o : Option Held) (last : ℤ) → negsuc 0 ≤ℤ last → IsHeldUpTo last o → IsHoldState (hold_words o) last
+hold_words_sound None last l s = record { size = refl; output = inl refl; changed = record { low = omega (arith, ints); high = l } }
+hold_words_sound (Some y) last l s = record { size = refl; output = bit_value y.on; changed = s }
 
-last_low : {p : Signature} {m : Meaning} (h : History) → IsHistory p m h → negsuc 0 ≤ℤ last_time h
+pub last_low : {p : Signature} {m : Meaning} (h : History) → IsHistory p m h → negsuc 0 ≤ℤ last_time h
 last_low [] s = omega (arith, ints)
 last_low (t ∷ h) s = omega (arith, ints, s.ticks.0.0)
 
@@ -85,7 +85,7 @@ standing_sound kind.RealsSwitch v h k s = refl
 standing_sound kind.LogicalTimer v h k s = record { size = refl; begin = began_up_to h s; spare = refl }
 standing_sound kind.LogicalTimerAccumulating v h k s = accumulating_sound h s (before_value Boolean (pos 0) 0 h (omega arith) refl (inl refl) s) (before_value Boolean (pos 1) 1 h (omega arith) refl (inr refl) s)
 standing_sound kind.LogicalTrueDelay v h k s = record { size = refl; begin = began_up_to h s; always = bit_value (always_on h) }
-standing_sound kind.LogicalTrueFalseHold v h k s = hold_sound (held (real_at v 0) (real_at v 1) h) (last_time h) (last_low h s) (held_up_to (real_at v 0) (real_at v 1) h s)
+standing_sound kind.LogicalTrueFalseHold v h k s = hold_words_sound (held (real_at v 0) (real_at v 1) h) (last_time h) (last_low h s) (held_up_to (real_at v 0) (real_at v 1) h s)
 standing_sound kind.LogicalSourcesConstant v h k s = refl
 standing_sound kind.IntegersSourcesConstant v h k s = refl
 standing_sound kind.RealsSourcesConstant v h k s = refl

@@ -1,5 +1,6 @@
 -- Short histories, computed: what blocks give at each tick, from the first on.
-use Rattle.std.specs.Prelude.{ℕ, ℤ, pos, negsuc, ◌≡◌, true, false, List, [], ◌∷◌, Option, Some, None}
+use Rattle.std.specs.Prelude.{ℕ, ◌+◌, ◌*◌, ℤ, pos, negsuc, ◌≡◌, true, false, List, [], ◌∷◌, Option, Some, None}
+use Rattle.cdl_source.specs.declared.limits.TheConstants.{LARGEST_INTEGER}
 use Rattle.cdl_values.specs.History.{History, Meaning, Tick, tick}
 use Rattle.cdl_kinds.specs.Meaning.Conversions.{to_nearest_integer}
 use Rattle.cdl_kinds.specs.Meaning.Discrete.{sampler, triggered_max, triggered_moving_mean, triggered_sampler, unit_delay}
@@ -87,7 +88,7 @@ Counts = (answers (on_counter (pos 0)) [] (with 0 1 0 ∷ with 1 0 0 ∷ with 2 
 
 -- no count above the greatest Integer
 abbrev pub CountsNoFurther : Type 0
-CountsNoFurther = (answers (on_counter (pos 2147483647)) [] (with 0 0 0 ∷ with 1 1 0 ∷ []) ≡ just 2147483647 ∷ None ∷ [])
+CountsNoFurther = (answers (on_counter (pos LARGEST_INTEGER)) [] (with 0 0 0 ∷ with 1 1 0 ∷ []) ≡ just LARGEST_INTEGER ∷ None ∷ [])
 
 abbrev pub Latches : Type 0
 Latches = (answers latch [] (with 0 1 0 ∷ with 1 0 1 ∷ with 2 1 1 ∷ []) ≡ on ∷ off ∷ off ∷ [])
@@ -97,7 +98,7 @@ Toggles = (answers toggle [] (with 0 1 0 ∷ with 1 1 0 ∷ with 2 0 0 ∷ with 
 
 -- a half goes away from zero, and past the range there is no value
 abbrev pub RoundsHalvesAway : Type 0
-RoundsHalvesAway = (answers to_nearest_integer [] (at 0 500000 ∷ tick (pos 1) (negsuc 499999 ∷ []) ∷ at 2 1499999 ∷ at 3 2147483647500000 ∷ []) ≡ just 1 ∷ Some (negsuc 0 ∷ []) ∷ just 1 ∷ None ∷ [])
+RoundsHalvesAway = (answers to_nearest_integer [] (at 0 500000 ∷ tick (pos 1) (negsuc 499999 ∷ []) ∷ at 2 1499999 ∷ at 3 (LARGEST_INTEGER * 1000000 + 500000) ∷ []) ≡ just 1 ∷ Some (negsuc 0 ∷ []) ∷ just 1 ∷ None ∷ [])
 
 -- an edge: true at the tick at which u becomes true, at the first one by the start
 abbrev pub RisingEdges : Type 0

@@ -7,7 +7,7 @@ use Rattle.cdl_kinds.specs.declared.kind.Kind.TheVariants as kind
 use Rattle.cdl_kinds.specs.Names.{kind_name, kinds, found}
 
 -- each kind is the first of its name
-first_of_name : (k : Kind) → found (kind_name k) kinds ≡ Some k
+pub first_of_name : (k : Kind) → found (kind_name k) kinds ≡ Some k
 unfolding kinds
 first_of_name kind.LogicalAnd = refl
 first_of_name kind.LogicalOr = refl

@@ -104,15 +104,12 @@ none_at P ts h at a = h.none a.before a.after a.token a.tokens_are a.breaks
 
 -- ---- by the number of the token
 
-pub take_one : (ts : List Token) (i : ℕ) (d : Token) → i < length ts → take (i + 1) ts ≡ take i ts ++ get_or ts i d ∷ []
-take_one ts i d l = take_more ts i d l
-
 pub cut_at : (ts : List Token) (i : ℕ) (d : Token) → i < length ts → ts ≡ take i ts ++ get_or ts i d ∷ drop (i + 1) ts
 cut_at ts i d l = sym (take-append-drop i ts) ∙ ap (λ z. take i ts ++ z) (rw add-one (drop-cons ts i d l))
 
 pub none_more : (P : List Token → Token → Type 0) (ts : List Token) (i : ℕ) (d : Token) → i < length ts → NoneAt P (take i ts) → (P (take i ts) (get_or ts i d) → ⊥)
     → NoneAt P (take (i + 1) ts)
-none_more P ts i d l h f = subst (NoneAt P) (sym (take_one ts i d l)) (one_more P (take i ts) (get_or ts i d) h f)
+none_more P ts i d l h f = subst (NoneAt P) (sym (take_more ts i d l)) (one_more P (take i ts) (get_or ts i d) h f)
 
 pub found_at : (P : List Token → Token → Type 0) (ts : List Token) (i : ℕ) (d : Token) → Rise ts → i < length ts → NoneAt P (take i ts) → P (take i ts) (get_or ts i d)
     → AtToken P ts (get_or ts i d).span.start × ((earlier : ℕ) → earlier < (get_or ts i d).span.start → AtToken P ts earlier → ⊥)

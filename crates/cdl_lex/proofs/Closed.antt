@@ -1,13 +1,10 @@
 -- Strings and comments up to where they are closed.
-use Rattle.std.proofs.Common.{◌≡◌, ℕ, ◌+◌, ◌<◌, ◌≤◌, Bool, true, false, ◌&&◌, ◌==◌, [], ◌∷◌, ◌++◌, length, drop, get_or, Option, Some, None, refl, sym, ap, ◌∙◌, subst, arith, if◌then◌else◌, add-one, drop-cons}
-use Rattle.std.proofs.lemmas.Bool.{eqb-true, ne_eqb}
-use Rattle.std.proofs.lemmas.List.{drop_all}
+use Rattle.std.proofs.Common.{◌≡◌, ℕ, ◌+◌, ◌<◌, ◌≤◌, Bool, true, false, ◌&&◌, ◌==◌, [], ◌∷◌, ◌++◌, length, drop, get_or, Option, Some, None, refl, sym, ap, ◌∙◌, subst, arith, if◌then◌else◌}
+use Rattle.std.proofs.lemmas.Bool.{eqb-true, ne_eqb, and_parts, and_right}
+use Rattle.std.proofs.lemmas.List.{drop_all, drop_more}
 use Rattle.cdl_lex.specs.Spellings.{Bytes, is_escape, IsInside, nothing, plain, escape}
 use Rattle.cdl_lex.specs.Splits.{HoldsNoClose}
 use Rattle.cdl_lex.specs.Steps.{begins, plus, inside_len, block_len}
-
-pub cut_at : (b : Bytes) (at : ℕ) → at < length b → drop at b ≡ get_or b at 0 ∷ drop (at + 1) b
-cut_at b at within = rw add-one (drop-cons b at 0 within)
 
 plus_one : (at : ℕ) (o : Option ℕ) → plus at (plus 1 o) ≡ plus (at + 1) o
 plus_one at None = refl
@@ -28,7 +25,7 @@ inside_cons true c cs = refl
 inside_cons false c cs = refl
 
 inside_more : (e : Bool) (b : Bytes) (at : ℕ) (w : Option ℕ) → at < length b → plus at (inside_len e (drop at b)) ≡ w → plus at (inside_at e (get_or b at 0) (drop (at + 1) b)) ≡ w
-inside_more e b at w l h = sym (ap (plus at) (ap (inside_len e) (cut_at b at l) ∙ inside_cons e (get_or b at 0) (drop (at + 1) b))) ∙ h
+inside_more e b at w l h = sym (ap (plus at) (ap (inside_len e) (drop_more b at 0 l) ∙ inside_cons e (get_or b at 0) (drop (at + 1) b))) ∙ h
 
 pub wrong_escape : (e : Bool) (b : Bytes) (at : ℕ) (w : Option ℕ) → at < length b → e ≡ true → is_escape (get_or b at 0) ≡ false → plus at (inside_len e (drop at b)) ≡ w → None ≡ w
 wrong_escape true b at w l t f h =
@@ -136,10 +133,10 @@ unfolding block_len
 block_cons c cs = refl
 
 block_more : (b : Bytes) (at : ℕ) (w : Option ℕ) → at < length b → plus at (block_len (drop at b)) ≡ w → plus at (block_at (get_or b at 0) (drop (at + 1) b)) ≡ w
-block_more b at w l h = sym (ap (plus at) (ap block_len (cut_at b at l) ∙ block_cons (get_or b at 0) (drop (at + 1) b))) ∙ h
+block_more b at w l h = sym (ap (plus at) (ap block_len (drop_more b at 0 l) ∙ block_cons (get_or b at 0) (drop (at + 1) b))) ∙ h
 
 begins_at : (b : Bytes) (at c : ℕ) → at < length b → begins c (drop at b) ≡ (get_or b at 0 == c)
-begins_at b at c l = ap (begins c) (cut_at b at l)
+begins_at b at c l = ap (begins c) (drop_more b at 0 l)
 
 pub close_here : (b : Bytes) (at : ℕ) (w : Option ℕ) → at + 1 < length b → get_or b at 0 ≡ 42 → get_or b (at + 1) 0 ≡ 47 → plus at (block_len (drop at b)) ≡ w → Some (at + 2) ≡ w
 close_here b at w l e f h =
@@ -157,15 +154,11 @@ no_close_here b at w l f h =
 pub other_byte : (b : Bytes) (at : ℕ) → (get_or b at 0 ≡ 42 → ⊥) → (get_or b at 0 == 42 && begins 47 (drop (at + 1) b)) ≡ false
 other_byte b at f = ap (λ q. q && begins 47 (drop (at + 1) b)) (ne_eqb _ _ f)
 
-and_false : (p : Bool) → (p && false) ≡ false
-and_false true = refl
-and_false false = refl
-
 pub other_second : (b : Bytes) (at : ℕ) → at + 1 < length b → (get_or b (at + 1) 0 ≡ 47 → ⊥) → (get_or b at 0 == 42 && begins 47 (drop (at + 1) b)) ≡ false
-other_second b at l f = ap (λ q. get_or b at 0 == 42 && q) (begins_at b (at + 1) 47 l ∙ ne_eqb _ _ f) ∙ and_false (get_or b at 0 == 42)
+other_second b at l f = ap (λ q. get_or b at 0 == 42 && q) (begins_at b (at + 1) 47 l ∙ ne_eqb _ _ f) ∙ and_right (get_or b at 0 == 42) false refl
 
 pub no_second : (b : Bytes) (at : ℕ) → length b ≤ at + 1 → (get_or b at 0 == 42 && begins 47 (drop (at + 1) b)) ≡ false
-no_second b at l = ap (λ z. get_or b at 0 == 42 && begins 47 z) (drop_all (at + 1) b l) ∙ and_false (get_or b at 0 == 42)
+no_second b at l = ap (λ z. get_or b at 0 == 42 && begins 47 z) (drop_all (at + 1) b l) ∙ and_right (get_or b at 0 == 42) false refl
 
 pub unclosed_block : (b : Bytes) (at : ℕ) (w : Option ℕ) → length b ≤ at → plus at (block_len (drop at b)) ≡ w → None ≡ w
 unfolding block_len
@@ -175,7 +168,7 @@ behind_first : (c : ℕ) (s : Bytes) → HoldsNoClose (c ∷ s) → HoldsNoClose
 behind_first c s h u v e = h (c ∷ u) v (ap (λ z. c ∷ z) e)
 
 closes_not : (c : ℕ) (s r : Bytes) → HoldsNoClose (c ∷ s) → (c == 42 && begins 47 (s ++ 42 ∷ 47 ∷ r)) ≡ false
-closes_not c [] r h = and_false (c == 42)
+closes_not c [] r h = and_right (c == 42) false refl
 closes_not c (d ∷ s) r h = go (c == 42) (d == 47) refl refl
   where
     go : (p q : Bool) → (c == 42) ≡ p → (d == 47) ≡ q → (p && q) ≡ false
@@ -214,11 +207,6 @@ more_held c s r f h [] v e =
     let never : true ≡ false = sym (ap (λ z. z == 42 && begins 47 (s ++ 42 ∷ 47 ∷ r)) first ∙ ap (λ z. begins 47 (z ++ 42 ∷ 47 ∷ r)) second) ∙ f in cc
 more_held c s r f h (d ∷ u) v e = let rest : s ≡ u ++ 42 ∷ 47 ∷ v = cc in h u v rest
 
-both : (a b : Bool) → (a && b) ≡ true → (a ≡ true) × (b ≡ true)
-both true true e = (refl, refl)
-both true false e = cc
-both false b e = cc
-
 pub closes_block : (b : Bytes) (n : ℕ) → block_len b ≡ Some n → ClosesBlock b n
 unfolding block_len
 closes_block [] n h = cc
@@ -226,7 +214,7 @@ closes_block (c ∷ cs) n h = go (c == 42 && begins 47 cs) refl h (λ m f. close
   where
     go : (q : Bool) → (c == 42 && begins 47 cs) ≡ q → (if q then Some 2 else plus 1 (block_len cs)) ≡ Some n → ((m : ℕ) → block_len cs ≡ Some m → ClosesBlock cs m) → ClosesBlock (c ∷ cs) n
     go true e g again =
-        let p = both (c == 42) (begins 47 cs) e in
+        let p = and_parts (c == 42) (begins 47 cs) e in
         let tail = begins_with 47 cs p.1 in
         record { s = []; r = tail.0; inside = nothing_held; is = ap (λ z. z ∷ cs) (eqb-true c 42 p.0) ∙ ap (λ z. 42 ∷ z) tail.1; size = sym (same_some 2 n g) }
     go false e g again =

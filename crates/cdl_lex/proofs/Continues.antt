@@ -1,7 +1,6 @@
 -- How the splittings of a text go on from a place.
-use Rattle.std.proofs.Common.{◌≡◌, ◌⊎◌, inl, inr, ℕ, ◌+◌, ◌-◌, Bool, true, false, nat_le, ◌≤◌, ◌<◌, List, [], ◌∷◌, ◌++◌, length, drop, Option, refl, sym, ap, ◌∙◌, subst, arith, append_assoc, append-nil, length-drop}
-use Rattle.std.proofs.lemmas.Bool.{leb-true}
-use Rattle.std.proofs.lemmas.Bool.Decides.{nat_tests}
+use Rattle.std.proofs.Common.{◌≡◌, inl, inr, ℕ, ◌+◌, ◌-◌, ◌≤◌, ◌<◌, List, [], ◌∷◌, ◌++◌, length, drop, Option, refl, sym, ap, ◌∙◌, subst, arith, append_assoc, append-nil, length-drop}
+use Rattle.std.proofs.lemmas.Bool.{cases_lt}
 use Rattle.std.proofs.lemmas.List.{drop-drop, drop_all}
 use Rattle.std.proofs.Math.Seq.{drop-append_seam}
 use Rattle.cdl_source.specs.declared.place.TokenSort.{TokenSort}
@@ -102,18 +101,8 @@ splits_once bytes ts us x y = (reaches_once x end_halts y end_halts).0
 pub splits_not_stuck : (bytes : Bytes) (ts : List Token) (at : ℕ) → Splits bytes ts → IsNoToken bytes at → ⊥
 splits_not_stuck bytes ts at x n = n.nothing.more (reaches_once x end_halts n.reached (nothing_halts n.nothing)).1
 
-above : (a b : ℕ) → nat_le b a ≡ false → a < b
-above a b e = grind (arith, nat_tests)
-
-pub less_or : (a b : ℕ) → (a < b) ⊎ (b ≤ a)
-less_or a b = go (nat_le b a) refl
-  where
-    go : (q : Bool) → nat_le b a ≡ q → (a < b) ⊎ (b ≤ a)
-    go true e = inr (leb-true b a e)
-    go false e = inl (above a b e)
-
 drop_some : (bytes : Bytes) (at : ℕ) → (drop at bytes ≡ [] → ⊥) → at < length bytes
-drop_some bytes at h = elim (less_or at (length bytes)) [ inl e ↦ e | inr e ↦ absurd (h (drop_all at bytes e)) ]
+drop_some bytes at h = elim (cases_lt at (length bytes)) [ inl e ↦ e | inr e ↦ absurd (h (drop_all at bytes e)) ]
 
 pub stuck_within : (bytes : Bytes) (at : ℕ) → IsNoToken bytes at → at < length bytes
 stuck_within bytes at n = drop_some bytes at n.nothing.more

@@ -1,23 +1,20 @@
 -- Literals that are past their limits.
-use Rattle.std.proofs.Common.{◌≡◌, ℕ, ◌+◌, ◌-◌, ◌*◌, ◌<◌, ◌≤◌, List, [], ◌∷◌, length, drop, get_or, sym, ap, ◌∙◌, arith, add-one, drop-cons}
+use Rattle.std.proofs.Common.{◌≡◌, ℕ, ◌+◌, ◌-◌, ◌*◌, ◌<◌, ◌≤◌, List, ◌∷◌, length, drop, get_or, sym, ap, ◌∙◌, arith, add-one, drop-cons}
 use Rattle.cdl_source.specs.declared.limits.TheConstants.{LARGEST_INTEGER}
 use Rattle.std.proofs.Common.{inl, inr, ℤ, Result, Ok, Err, IsTrue}
 use Rattle.cdl_decimal.specs.Spells.{number, number_after, Parses}
 use Rattle.cdl_decimal.specs.declared.numeral.DecimalError.{DecimalError}
 use Rattle.cdl_decimal.specs.declared.numeral.DecimalError.TheVariants.{NotDecimal, TooLong, OutOfRange}
+use Rattle.cdl_decimal.proofs.DigitLaws.{number_after-grows}
 use Rattle.cdl_lex.specs.Limits.{IsRefused}
 use Rattle.cdl_lex.specs.Steps.{refuses}
-
-grows : (ds : List ℕ) (n : ℕ) → n ≤ number_after n ds
-grows [] n = omega arith
-grows (d ∷ ds) n = let h : n * 10 + (d - 48) ≤ number_after (n * 10 + (d - 48)) ds = grows ds (n * 10 + (d - 48)) in omega arith
 
 pub next_digit : (ds : List ℕ) (i n : ℕ) → i < length ds → number_after n (drop i ds) ≡ number_after (n * 10 + (get_or ds i 0 - 48)) (drop (i + 1) ds)
 next_digit ds i n l = let front : drop i ds ≡ get_or ds i 0 ∷ drop (i + 1) ds = rw add-one (drop-cons ds i 0 l) in ap (number_after n) front
 
 pub is_above : (ds : List ℕ) (i n m : ℕ) → i < length ds → number_after n (drop i ds) ≡ number ds → m ≡ n * 10 + (get_or ds i 0 - 48) → LARGEST_INTEGER < m → LARGEST_INTEGER < number ds
 is_above ds i n m l e same great =
-    let more : m ≤ number_after m (drop (i + 1) ds) = grows (drop (i + 1) ds) m in
+    let more : m ≤ number_after m (drop (i + 1) ds) = number_after-grows (drop (i + 1) ds) m in
     let whole : number_after m (drop (i + 1) ds) ≡ number ds = ap (λ z. number_after z (drop (i + 1) ds)) same ∙ sym (next_digit ds i n l) ∙ e in
     omega arith
 

@@ -1,6 +1,6 @@
 -- Depths and counts, a token at a time.
 use Rattle.std.proofs.Common.{◌≡◌, inl, inr, Bool, true, false, ℕ, ◌+◌, ◌==◌, ◌<◌, ◌≤◌, List, [], ◌∷◌, ◌&&◌, not, if◌then◌else◌, length, reverse, take, get_or, sym, ap, ◌∙◌, arith}
-use Rattle.std.proofs.lemmas.List.{reverse-append}
+use Rattle.std.proofs.lemmas.List.{reverse-append, take_more}
 use Rattle.cdl_source.specs.declared.place.Token.{Token}
 use Rattle.cdl_lex.specs.declared.role.Role.{Role}
 use Rattle.cdl_lex.specs.declared.role.Role.TheVariants as r
@@ -9,11 +9,10 @@ use Rattle.cdl_lex.specs.declared.counts.Counts.{Counts}
 use Rattle.cdl_lex.specs.Spellings.{Bytes}
 use Rattle.cdl_lex.specs.Roles.{role_of, is_end, is_semicolon, is_if, is_operator, is_lead}
 use Rattle.cdl_lex.specs.Limits.{follows, with_bracket, brackets, with_class, classes, depth, with_token, ifs, operators, IsTooDeep, IsTooMany}
-use Rattle.cdl_lex.proofs.AtTokens.{take_one}
 
 -- one token more, from the nearest one back
 pub turned : (ts : List Token) (i : ℕ) (d : Token) → i < length ts → get_or ts i d ∷ reverse (take i ts) ≡ reverse (take (i + 1) ts)
-turned ts i d l = sym (ap reverse (take_one ts i d l) ∙ reverse-append (take i ts) (get_or ts i d ∷ []))
+turned ts i d l = sym (ap reverse (take_more ts i d l) ∙ reverse-append (take i ts) (get_or ts i d ∷ []))
 
 -- ---- depths
 

@@ -2,11 +2,13 @@
 use Rattle.std.proofs.Common.{◌≡◌, inl, inr, ℕ, suc, ◌+◌, ◌<◌, ◌≤◌, Bool, true, false, ◌||◌, ◌==◌, [], ◌∷◌, ◌++◌, length, take, drop, get_or, Option, Some, None, refl, sym, ap, ◌∙◌, subst, arith, if◌then◌else◌, append_assoc, append-nil, length-append}
 use Rattle.std.proofs.lemmas.Bool.{eqb-false}
 use Rattle.std.proofs.lemmas.Bool.Decides.{nat_tests}
+use Rattle.std.proofs.lemmas.List.{get_or_append_left}
 use Rattle.std.proofs.Math.Seq.{take-append_seam}
 use Rattle.std.specs.List.{list_all, prefix_len}
 use Rattle.cdl_source.specs.Identifiers.{is_digit, is_initial, is_word_byte}
 use Rattle.cdl_source.specs.declared.place.TokenSort.{TokenSort}
 use Rattle.cdl_source.specs.declared.place.TokenSort.TheVariants.{Integer, Real, Str, Symbol}
+use Rattle.cdl_source.proofs.Options.{not_zero}
 use Rattle.cdl_decimal.specs.Spells.{AllDigits, IsFraction, IsExponent}
 use Rattle.cdl_lex.specs.Spellings.{Bytes, is_blank, symbols, is_symbol, is_pair, Spelling, integer, real, string, symbol, pair}
 use Rattle.cdl_lex.specs.Splits.{IsLongest, StandsApart, IsToken, is_inner, IsGap, blank, line, block, NothingBegins}
@@ -42,9 +44,6 @@ word_begins (c ∷ b) n some i e =
 
 -- ---- numbers
 
-not_zero : (n : ℕ) → 0 < n → (n == 0) ≡ false
-not_zero n h = grind (arith, nat_tests)
-
 number_spelling : (ds f x : Bytes) {fs xs : Bytes} {m : Bool} → 0 < length ds → AllDigits ds → IsFraction f fs → IsExponent x m xs
     → Spelling (ds ++ (f ++ x)) (number_sort (length (f ++ x)))
 number_spelling ds f x some all p q = go (f ++ x) refl
@@ -73,10 +72,6 @@ number_token [] b some h x size = let never : ⊥ = omega arith in absurd never
 number_token (d ∷ w) b some h x size =
     with_token (d ∷ w) b (record { spelling = x; longest = number_longest d w b h size; apart = apart d w b (digit_no_slash d h) })
 
-first_digit : (ds t : Bytes) → 0 < length ds → get_or ((ds ++ t)) 0 0 ≡ get_or ds 0 0
-first_digit [] t some = let never : ⊥ = omega arith in absurd never
-first_digit (d ∷ ds) t some = refl
-
 run_some : (p : ℕ → Bool) (b : Bytes) → 0 < length b → p (get_or b 0 0) ≡ true → 0 < prefix_len p b
 run_some p [] some e = let never : ⊥ = omega arith in absurd never
 run_some p (c ∷ b) some e =
@@ -95,7 +90,7 @@ number_begins b n t some h whole tail =
     let size : length w ≡ n + t = omega arith in
     let len : number_len b ≡ length w = omega arith in
     let some_w : 0 < length w = omega arith in
-    let first : get_or w 0 0 ≡ get_or b 0 0 = sym (first_digit w k.r some_w) ∙ ap (λ z. get_or z 0 0) (sym k.is) in
+    let first : get_or w 0 0 ≡ get_or b 0 0 = sym (get_or_append_left w k.r 0 0 some_w) ∙ ap (λ z. get_or z 0 0) (sym k.is) in
     let spelled : Spelling w (number_sort (length (k.f ++ k.x))) = number_spelling k.ds k.f k.x digits k.digits k.fraction_is k.exponent_is in
     let found : BeginsWith (w ++ k.r) (Some (number_sort (length (k.f ++ k.x)))) (length w) =
     number_token w k.r some_w (ap is_digit first ∙ h) spelled (ap number_len (sym k.is) ∙ len) in

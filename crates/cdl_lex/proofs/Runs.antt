@@ -1,13 +1,8 @@
 -- Runs of bytes that pass a test.
-use Rattle.std.proofs.Common.{◌≡◌, ℕ, ◌+◌, ◌-◌, take, drop, length-drop, Bool, true, false, ◌&&◌, [], ◌∷◌, ◌++◌, length, refl, ap, ◌∙◌, subst, arith, if◌then◌else◌}
-use Rattle.std.proofs.lemmas.List.{take_all}
+use Rattle.std.proofs.Common.{◌≡◌, ℕ, ◌+◌, Bool, true, false, ◌&&◌, [], ◌∷◌, ◌++◌, length, refl, ap, ◌∙◌, subst, arith, if◌then◌else◌}
+use Rattle.std.proofs.lemmas.Bool.{and_parts}
 use Rattle.std.specs.List.{list_all, prefix_len}
 use Rattle.cdl_lex.specs.Spellings.{Bytes}
-
-pub both_true : (a b : Bool) → (a && b) ≡ true → (a ≡ true) × (b ≡ true)
-both_true true true e = (refl, refl)
-both_true true false e = cc
-both_true false b e = cc
 
 -- The run takes the bytes that pass, and stops at one that doesn't.
 pub data Cut (p : ℕ → Bool) : Bytes → ℕ → Type 0 where
@@ -28,14 +23,14 @@ run_cuts p (c ∷ b) = cut_more p c b (prefix_len p b) (p c) refl (run_cuts p b)
 
 -- the byte behind some that pass
 pub byte_behind : (p : ℕ → Bool) (s m : Bytes) (x : ℕ) → list_all p (s ++ x ∷ m) ≡ true → p x ≡ true
-byte_behind p [] m x e = (both_true (p x) (list_all p m) e).0
-byte_behind p (c ∷ s) m x e = byte_behind p s m x (both_true (p c) (list_all p (s ++ x ∷ m)) e).1
+byte_behind p [] m x e = (and_parts (p x) (list_all p m) e).0
+byte_behind p (c ∷ s) m x e = byte_behind p s m x (and_parts (p c) (list_all p (s ++ x ∷ m)) e).1
 
 -- a run goes on over what passes
 pub run_through : (p : ℕ → Bool) (s b : Bytes) → list_all p s ≡ true → prefix_len p (s ++ b) ≡ length s + prefix_len p b
 run_through p [] b e = omega arith
 run_through p (c ∷ s) b e =
-    let both = both_true (p c) (list_all p s) e in
+    let both = and_parts (p c) (list_all p s) e in
     let more : prefix_len p (s ++ b) ≡ length s + prefix_len p b = run_through p s b both.1 in
     let one : prefix_len p (c ∷ (s ++ b)) ≡ 1 + prefix_len p (s ++ b) = ap (λ q. if q then 1 + prefix_len p (s ++ b) else 0) both.0 in
     omega arith
@@ -56,7 +51,3 @@ same_front (c ∷ s) (d ∷ t) b r e l =
     let size : length s ≡ length t = omega arith in
     let more = same_front s t b r rest size in
     (ap (λ z. z ∷ s) first ∙ ap (λ z. d ∷ z) more.0, more.1)
-
--- a slice up to the end
-pub to_end : (n : ℕ) (b : Bytes) → take (length b - n) (drop n b) ≡ drop n b
-to_end n b = take_all (length b - n) (drop n b) (omega (arith, length-drop n b))

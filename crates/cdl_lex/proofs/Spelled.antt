@@ -1,6 +1,6 @@
 -- What a spelling looks like, by its first byte.
 use Rattle.std.proofs.Common.{◌≡◌, ◌⊎◌, ℕ, ◌<◌, Bool, true, false, ◌&&◌, ◌||◌, ◌==◌, not, List, [], ◌∷◌, ◌++◌, length, refl, sym, ap, ◌∙◌, subst, arith, if◌then◌else◌, inl, inr}
-use Rattle.std.proofs.lemmas.Bool.{eqb-true}
+use Rattle.std.proofs.lemmas.Bool.{eqb-true, and_parts, not-true}
 use Rattle.std.proofs.lemmas.Bool.Decides.{nat_tests}
 use Rattle.std.proofs.lemmas.Slice.Eq.{bytes_eq-Decides}
 use Rattle.std.specs.List.{list_all, list_any}
@@ -11,7 +11,6 @@ use Rattle.cdl_source.specs.declared.place.TokenSort.TheVariants.{Identifier, In
 use Rattle.cdl_decimal.specs.Spells.{IsDigit, AllDigits, IsFraction, no_point, point, IsExponent, no_exponent, exponent}
 use Rattle.cdl_lex.specs.Spellings.{Bytes, is_blank, symbols, is_symbol, is_pair, IsInside, Spelling, identifier, keyword, integer, real, string, symbol, pair}
 use Rattle.cdl_lex.specs.Steps.{word_sort}
-use Rattle.cdl_lex.proofs.Runs.{both_true}
 
 -- ---- digits
 
@@ -27,7 +26,7 @@ digits_pass (d ∷ ds) h = ap (λ z. z && list_all is_digit ds) (digit_is d h.0)
 
 pub passing_digits : (ds : Bytes) → list_all is_digit ds ≡ true → AllDigits ds
 passing_digits [] e = tt
-passing_digits (d ∷ ds) e = let both = both_true (is_digit d) (list_all is_digit ds) e in (is_a_digit d both.0, passing_digits ds both.1)
+passing_digits (d ∷ ds) e = let both = and_parts (is_digit d) (list_all is_digit ds) e in (is_a_digit d both.0, passing_digits ds both.1)
 
 -- ---- keywords look as identifiers do
 
@@ -45,7 +44,7 @@ is_among words s = list_any (λ k. bytes_eq k s) words
 among_names : (words : List Bytes) (s : Bytes) → list_all is_name words ≡ true → is_among words s ≡ true → is_name s ≡ true
 among_names [] s all found = cc
 among_names (w ∷ ws) s all found =
-    let both = both_true (is_name w) (list_all is_name ws) all in
+    let both = and_parts (is_name w) (list_all is_name ws) all in
     go (bytes_eq w s) refl both.0 (λ f. among_names ws s both.1 f) found
   where
     go : (q : Bool) → bytes_eq w s ≡ q → is_name w ≡ true → (is_among ws s ≡ true → is_name s ≡ true) → (q || is_among ws s) ≡ true → is_name s ≡ true
@@ -71,7 +70,7 @@ is_one_of ks c = list_any (λ k. k == c) ks
 among_plain : (ks : Bytes) (c : ℕ) → list_all is_plain ks ≡ true → is_one_of ks c ≡ true → is_plain c ≡ true
 among_plain [] c all found = cc
 among_plain (k ∷ ks) c all found =
-    let both = both_true (is_plain k) (list_all is_plain ks) all in
+    let both = and_parts (is_plain k) (list_all is_plain ks) all in
     go (k == c) refl both.0 (λ f. among_plain ks c both.1 f) found
   where
     go : (q : Bool) → (k == c) ≡ q → is_plain k ≡ true → (is_one_of ks c ≡ true → is_plain c ≡ true) → (q || is_one_of ks c) ≡ true → is_plain c ≡ true
@@ -82,10 +81,6 @@ pub symbol_is_plain : (c : ℕ) → is_symbol c ≡ true → is_plain c ≡ true
 unfolding is_symbol
 symbol_is_plain c e = among_plain symbols c symbols_are_plain e
 
-not_true : (b : Bool) → not b ≡ true → b ≡ false
-not_true true e = cc
-not_true false e = refl
-
 -- what is plain
 pub record IsPlain (c : ℕ) : Type 0 where
   pub no_blank : is_blank c ≡ false
@@ -95,14 +90,14 @@ pub record IsPlain (c : ℕ) : Type 0 where
 
 pub plain_is : (c : ℕ) → is_plain c ≡ true → IsPlain c
 plain_is c e =
-    let both = both_true (not (is_blank c) && not (is_initial c)) (not (is_digit c) && not (c == 34)) e in
-    let left = both_true (not (is_blank c)) (not (is_initial c)) both.0 in
-    let right = both_true (not (is_digit c)) (not (c == 34)) both.1 in
+    let both = and_parts (not (is_blank c) && not (is_initial c)) (not (is_digit c) && not (c == 34)) e in
+    let left = and_parts (not (is_blank c)) (not (is_initial c)) both.0 in
+    let right = and_parts (not (is_digit c)) (not (c == 34)) both.1 in
     record {
-      no_blank = not_true _ left.0;
-      no_initial = not_true _ left.1;
-      no_digit = not_true _ right.0;
-      no_quote = not_true _ right.1;
+      no_blank = not-true _ left.0;
+      no_initial = not-true _ left.1;
+      no_digit = not-true _ right.0;
+      no_quote = not-true _ right.1;
     }
 
 pub first_of_pair : (c d : ℕ) → is_pair c d ≡ true → ((c ≡ 60) ⊎ (c ≡ 62)) ⊎ (c ≡ 61)
@@ -149,7 +144,7 @@ pub data View : Bytes → TokenSort → Type 0 where
 keyword_view : (s : Bytes) → is_keyword s ≡ true → is_name s ≡ true → View s Keyword
 keyword_view [] k n = cc
 keyword_view (c ∷ cs) k n =
-    let both = both_true (is_initial c) (list_all is_word_byte cs) n in
+    let both = and_parts (is_initial c) (list_all is_word_byte cs) n in
     subst (View (c ∷ cs)) (ap (λ q. if q then Keyword else Identifier) k) (a_word c cs both.0 both.1)
 
 integer_view : (ds : Bytes) → 0 < length ds → AllDigits ds → View ds Integer

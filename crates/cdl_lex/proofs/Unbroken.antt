@@ -3,12 +3,12 @@ use Rattle.std.proofs.Common.{◌≡◌, inl, inr, ℕ, zero, suc, ◌≤◌, Bo
 use Rattle.std.specs.Str.{IsUtf8, is_utf8, IsValidUpTo}
 use Rattle.std.proofs.lemmas.Str.{IsUtf8-from_is_utf8, is_utf8-from_IsUtf8, IsUtf8-nil}
 use Rattle.std.proofs.lemmas.List.{take_all}
+use Rattle.std.proofs.lemmas.Bool.{cases_lt}
 use Rattle.cdl_source.specs.declared.place.Token.{Token}
 use Rattle.cdl_lex.specs.Spellings.{Bytes}
 use Rattle.cdl_lex.specs.Splits.{Splits}
 use Rattle.cdl_lex.specs.Rules.{BreaksNone, not_utf8, too_long, past_limits}
 use Rattle.cdl_lex.specs.Texts.{AreTokens}
-use Rattle.cdl_lex.proofs.Continues.{less_or}
 use Rattle.cdl_lex.proofs.First.{short, fit}
 use Rattle.cdl_lex.proofs.Places.{are_tokens}
 
@@ -25,7 +25,7 @@ longest_front bytes (suc n) l h = go (is_utf8 (take n bytes)) refl (longest_fron
     go true e shorter = (n, record { short = omega arith; front = IsUtf8-from_is_utf8 (take n bytes) e; longest = λ m less u. h.none m (omega arith) u })
     go false e shorter = shorter (record {
       none = λ m le u.
-          elim (less_or n m) [
+          elim (cases_lt n m) [
             | inl less ↦ h.none m (omega arith) u
             | inr more ↦
                 let same : m ≡ n = omega arith in

@@ -1,6 +1,7 @@
 -- The rules of texts, and the first of them that a text breaks.
 use Rattle.std.specs.Prelude.{◌≡◌, ◌<◌, ℕ, List, ◌∷◌, ◌++◌, length, drop}
 use Rattle.cdl_source.specs.declared.limits.TheConstants.{LONGEST_MODEL}
+use Rattle.cdl_source.specs.declared.rules.TheConstants.{MODEL_TOO_LONG, NOT_UTF8, NO_TOKEN, PAST_LIMITS, NESTED_TOO_DEEPLY, EXPRESSION_TOO_LONG}
 use Rattle.std.specs.Str.{IsValidUpTo}
 use Rattle.cdl_source.specs.declared.place.Token.{Token}
 use Rattle.cdl_lex.specs.Spellings.{Bytes}
@@ -45,12 +46,12 @@ HasTooMany bytes = AtToken (IsTooMany bytes)
 
 -- The text breaks the rule of this number at this byte.
 pub data Breaks (bytes : Bytes) : ℕ → ℕ → Type 0 where
-  too_long : {at : ℕ} → IsTooLong bytes at → Breaks bytes 1 at
-  not_utf8 : {at : ℕ} → IsNotUtf8 bytes at → Breaks bytes 2 at
-  no_token : {at : ℕ} → IsNoToken bytes at → Breaks bytes 3 at
-  past_limits : {at : ℕ} (ts : List Token) → Splits bytes ts → HasPastLimits bytes ts at → Breaks bytes 4 at
-  too_deep : {at : ℕ} (ts : List Token) → Splits bytes ts → HasTooDeep bytes ts at → Breaks bytes 5 at
-  too_many : {at : ℕ} (ts : List Token) → Splits bytes ts → HasTooMany bytes ts at → Breaks bytes 6 at
+  too_long : {at : ℕ} → IsTooLong bytes at → Breaks bytes MODEL_TOO_LONG at
+  not_utf8 : {at : ℕ} → IsNotUtf8 bytes at → Breaks bytes NOT_UTF8 at
+  no_token : {at : ℕ} → IsNoToken bytes at → Breaks bytes NO_TOKEN at
+  past_limits : {at : ℕ} (ts : List Token) → Splits bytes ts → HasPastLimits bytes ts at → Breaks bytes PAST_LIMITS at
+  too_deep : {at : ℕ} (ts : List Token) → Splits bytes ts → HasTooDeep bytes ts at → Breaks bytes NESTED_TOO_DEEPLY at
+  too_many : {at : ℕ} (ts : List Token) → Splits bytes ts → HasTooMany bytes ts at → Breaks bytes EXPRESSION_TOO_LONG at
 
 -- The text breaks this rule at this byte, no lower rule at any byte, and this rule at no earlier byte.
 pub record IsFirstBroken (bytes : Bytes) (rule at : ℕ) : Type 0 where

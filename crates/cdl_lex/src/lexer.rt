@@ -13,6 +13,9 @@ use crate::depth::too_deep;
 use crate::literals::past_limits;
 use crate::split::{Splitting, split};
 use crate::tokens::Tokens;
+use cdl_source::rules::{
+    EXPRESSION_TOO_LONG, MODEL_TOO_LONG, NESTED_TOO_DEEPLY, NO_TOKEN, NOT_UTF8, PAST_LIMITS,
+};
 use cdl_source::{LONGEST_MODEL, OutOfMemory, Place, Text};
 use std::alloc::Global;
 
@@ -67,19 +70,19 @@ fn broken(rule: u32, file: u32, byte: u32) -> LexFault
     }
 }
 
-/// The tokens of the bytes of a file: at most 524,288 bytes of UTF-8 that split into gaps and tokens, where each token is the
+/// The tokens of the bytes of a file: at most `LONGEST_MODEL` bytes of UTF-8 that split into gaps and tokens, where each token is the
 /// longest that begins at its place.
 ///
 /// `Rule` names the first rule that the text breaks, by its number, and the first byte at which it is broken:
 ///
 /// | rule | broken where |
 /// |---|---|
-/// | 1 | there are more bytes than 524,288: at that byte |
-/// | 2 | the text is not UTF-8: at the end of its longest front that is UTF-8 |
-/// | 3 | neither a blank nor a comment nor a token begins: at that byte |
-/// | 4 | a whole number is above 2147483647, a Real is refused by `cdl_decimal::parse`, or an identifier has more than 64 bytes: at its first byte |
-/// | 5 | a token raises the depth of nesting to 65: at its first byte |
-/// | 6 | a token is the 65th `if` or the 1,025th counted operator since the last `;`: at its first byte |
+/// | `MODEL_TOO_LONG` | there are more bytes than `LONGEST_MODEL`: at that byte |
+/// | `NOT_UTF8` | the text is not UTF-8: at the end of its longest front that is UTF-8 |
+/// | `NO_TOKEN` | neither a blank nor a comment nor a token begins: at that byte |
+/// | `PAST_LIMITS` | a whole number is above `LARGEST_INTEGER`, a Real is refused by `cdl_decimal::parse`, or an identifier has more than 64 bytes: at its first byte |
+/// | `NESTED_TOO_DEEPLY` | a token raises the depth of nesting to 65: at its first byte |
+/// | `EXPRESSION_TOO_LONG` | a token is the 65th `if` or the 1,025th counted operator since the last `;`: at its first byte |
 ///
 /// `OutOfMemory` comes where the allocator refuses. The time is linear in the bytes, and a token takes 12 bytes of memory.
 pub fn lex(alloc: Global, file: u32, bytes: &[u8]) -> Result<Tokens, LexFault>
@@ -96,23 +99,23 @@ pub fn lex(alloc: Global, file: u32, bytes: &[u8]) -> Result<Tokens, LexFault>
     ensures refused { IfErr result (IsRefusal file bytes.now) }
 {
     if let Some(at) = too_long(bytes) {
-        return Err(broken(1, file, at));
+        return Err(broken(MODEL_TOO_LONG, file, at));
     }
     if let Some(at) = not_utf8(bytes) {
-        return Err(broken(2, file, at));
+        return Err(broken(NOT_UTF8, file, at));
     }
     let items = match split(alloc, bytes)? {
         Splitting::Whole(items) => items,
-        Splitting::Stuck(at) => return Err(broken(3, file, at as u32)),
+        Splitting::Stuck(at) => return Err(broken(NO_TOKEN, file, at as u32)),
     };
     if let Some(at) = past_limits(bytes, items.items()) {
-        return Err(broken(4, file, at));
+        return Err(broken(PAST_LIMITS, file, at));
     }
     if let Some(at) = too_deep(bytes, items.items()) {
-        return Err(broken(5, file, at));
+        return Err(broken(NESTED_TOO_DEEPLY, file, at));
     }
     if let Some(at) = too_many(bytes, items.items()) {
-        return Err(broken(6, file, at));
+        return Err(broken(EXPRESSION_TOO_LONG, file, at));
     }
     let mut text = Text::new(alloc);
     text.push(bytes)?;

@@ -1,6 +1,6 @@
 //! The tokens of a text.
 //!
-//! A text has at most 524,288 bytes of UTF-8. It splits whole into gaps and tokens: identifiers, the keywords of the language,
+//! A text has at most `LONGEST_MODEL` bytes of UTF-8. It splits whole into gaps and tokens: identifiers, the keywords of the language,
 //! numbers, strings and symbols. Gaps are blanks and comments. Each token is the longest that begins at its place. Literals,
 //! identifiers, nesting and the operators of an expression have limits.
 #![tactic(auto)]

@@ -36,7 +36,7 @@ impl Tokens {
         Tokens { file, bytes, items }
     }
 
-    /// How many tokens there are: at most as many as bytes. The text breaks none of the rules 1 to 6, and splits into them.
+    /// How many tokens there are: at most as many as bytes. The text breaks none of C1 to C6, and splits into them.
     pub fn len(&self) -> usize
         ensures len { result ≡ length self.now.items }
         ensures tokens { AreTokens self.now.bytes self.now.items }
@@ -51,7 +51,7 @@ impl Tokens {
         self.file
     }
 
-    /// All bytes of the text, lent: at most 524,288, and UTF-8.
+    /// All bytes of the text, lent: at most `LONGEST_MODEL`, and UTF-8.
     pub fn bytes(&self) -> &[u8]
         ensures bytes { result.now ≡ self.now.bytes }
         ensures limit { length result.now ≤ LONGEST_MODEL }

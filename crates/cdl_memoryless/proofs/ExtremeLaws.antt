@@ -6,17 +6,10 @@ use Rattle.std.proofs.lemmas.Int.{ints}
 use Rattle.cdl_decimal.specs.Near.{InRange}
 use Rattle.cdl_values.specs.History.{word}
 use Rattle.cdl_values.specs.Extremes.{greater_of, lesser_of, greatest, least}
-
-greater_assoc : (a b c : ℤ) → greater_of a (greater_of b c) ≡ greater_of (greater_of a b) c
-greater_assoc a b c = grind (arith, ints)
+use Rattle.cdl_values.proofs.Extremes.{greatest_next}
 
 lesser_assoc : (a b c : ℤ) → lesser_of a (lesser_of b c) ≡ lesser_of (lesser_of a b) c
 lesser_assoc a b c = grind (arith, ints)
-
--- the greater of the first two stands for both
-pub greatest_next : (a b : ℤ) (more : List ℤ) → greatest (a ∷ b ∷ more) ≡ greatest (greater_of a b ∷ more)
-greatest_next a b [] = refl
-greatest_next a b (c ∷ more) = greater_assoc a b (greatest (c ∷ more))
 
 pub least_next : (a b : ℤ) (more : List ℤ) → least (a ∷ b ∷ more) ≡ least (lesser_of a b ∷ more)
 least_next a b [] = refl

@@ -1,15 +1,12 @@
 -- From the lists as they are written to the steps of the search.
-use Rattle.std.proofs.Common.{ℕ, suc, ◌+◌, ◌-◌, ◌<◌, ◌≤◌, ◌≡◌, ◌⊎◌, sym, ap, ◌∙◌, arith, true, false, inl, inr, List, [], ◌∷◌, ◌++◌, length, get_or, take, drop, set, slice_range, Result, Ok, Err, OnOk, lt-ltb, length-take, length-drop, length-append}
-use Rattle.std.proofs.lemmas.List.{get_or-take, get_or-drop, get_or-set_same, get_or-set_other, get_or_append_left, get_or-append-add}
+use Rattle.std.proofs.Common.{refl, ℕ, suc, ◌+◌, ◌-◌, ◌<◌, ◌≤◌, ◌≡◌, ◌⊎◌, sym, ap, ◌∙◌, arith, true, false, inl, inr, List, [], ◌∷◌, ◌++◌, length, get_or, take, drop, set, slice_range, lt-ltb, length-take, length-drop, length-append}
+use Rattle.std.proofs.lemmas.List.{get_or-take, get_or-drop, get_or-set_same, get_or-set_other, get_or_append_left, get_or-append-add, get_or_push}
 use Rattle.std.proofs.lemmas.Bool.{ltb-true}
 use Rattle.cdl_search.specs.declared.search.Search.{Search}
 use Rattle.cdl_search.specs.Walks.{Reach}
 use Rattle.cdl_search.specs.Search.{Opens, Merges, Closes}
 use Rattle.cdl_search.specs.Graph.{IsGraph, Determines, Pushed, Merged, Closed, last_start, stacks}
 use Rattle.cdl_search.proofs.Walking.{by_lt}
-
-at_end : (xs : List ℕ) (x : ℕ) → get_or (xs ++ x ∷ []) (length xs) 0 ≡ x
-at_end xs x = let h : length xs + 0 ≡ length xs = omega arith in ap (λ i. get_or (xs ++ x ∷ []) i 0) (sym h) ∙ get_or-append-add xs (x ∷ []) 0 0
 
 -- s with the last of its todo list taken, and u opened
 pub opens_from : (first edges : List ℕ) (n a u : ℕ) (r s t : Search) → IsGraph first edges n → u < n → Pushed first edges u s t → length s.marks.items ≡ n → length s.starts.items ≡ length s.owed.items → s.marks.items ≡ r.marks.items → s.looped.items ≡ r.looped.items → s.held.items ≡ r.held.items → s.starts.items ≡ r.starts.items → s.owed.items ≡ r.owed.items → s.todo.items ≡ take a r.todo.items → a ≤ length r.todo.items → ((p : ℕ) → p < length r.todo.items → (p < a) ⊎ (get_or r.todo.items p 0 ≡ u)) → get_or r.marks.items u 0 ≡ 0 → ((p : ℕ) → p < length r.held.items → Reach (Determines first edges) u (get_or r.held.items p 0)) → ((i : ℕ) → i < length r.starts.items → get_or r.owed.items i 0 ≤ a) → Opens (Determines first edges) (stacks r) (stacks t) a u
@@ -25,7 +22,7 @@ opens_from first edges n a u r s t g hu k hm hp em el eh es eo et ha rest new re
     let in_row : (k : ℕ) → k < hi - lo → get_or row k 0 ≡ get_or edges (lo + k) 0 = λ k h. get_or-take (hi - lo) (drop lo edges) k 0 h ∙ get_or-drop lo edges k 0 in
     let v2 : length s.held.items + 2 ≡ suc (suc (length r.held.items)) = rw eh (omega arith) in
     let m1 : get_or t.marks.items u 0 ≡ length s.held.items + 2 = rw k.marks (get_or-set_same s.marks.items u (length s.held.items + 2) 0 (omega (arith, hm))) in
-    let o1 : get_or t.owed.items (length s.owed.items) 0 ≡ length s.todo.items = rw k.owed (at_end s.owed.items (length s.todo.items)) in
+    let o1 : get_or t.owed.items (length s.owed.items) 0 ≡ length s.todo.items = rw k.owed (get_or_push s.owed.items (length s.todo.items) 0 (length s.owed.items) refl) in
     let late : (p : ℕ) → a ≤ p → p < length t.todo.items → get_or t.todo.items p 0 ≡ get_or edges (lo + (p - a)) 0 = λ p h l.
     let q : p ≡ length s.todo.items + (p - a) = omega (arith, na) in
     rw k.todo (ap (λ i. get_or (s.todo.items ++ row) i 0) q ∙ get_or-append-add s.todo.items row (p - a) 0 ∙ in_row (p - a) (omega (arith, nt))) in
@@ -42,7 +39,7 @@ opens_from first edges n a u r s t g hu k hm hp em el eh es eo et ha rest new re
       looped = λ v. ap (λ x. get_or x v false) (k.looped ∙ el);
       ns = rw (k.held, ← eh) (omega (arith, length-append s.held.items (u ∷ [])));
       open_old = λ p h. rw (k.held, ← eh) (get_or_append_left s.held.items (u ∷ []) 0 p (rw eh h));
-      open_new = rw (k.held, ← eh) (at_end s.held.items u);
+      open_new = rw (k.held, ← eh) (get_or_push s.held.items u 0 (length s.held.items) refl);
       nw = omega (arith, nt);
       todo_old = λ p h. ap (λ x. get_or x p 0) k.todo ∙ get_or_append_left s.todo.items row 0 p (omega (arith, na)) ∙ ap (λ x. get_or x p 0) et ∙ get_or-take a r.todo.items p 0 h;
       todo_in = λ c d. (a + (d.0 - lo), omega arith, (let x = d.1 in let y = d.2 in omega (arith, nt, x, y)), late (a + (d.0 - lo)) (omega arith) (let x = d.1 in let y = d.2 in omega (arith, nt, x, y)) ∙ ap (λ i. get_or edges i 0) (let x = d.1 in omega (arith, x)) ∙ d.3);
@@ -50,7 +47,7 @@ opens_from first edges n a u r s t g hu k hm hp em el eh es eo et ha rest new re
       nb = rw (k.starts, ← es) (omega (arith, length-append s.starts.items (length s.held.items ∷ [])));
       bs_old = λ i h. rw (k.starts, ← es) (get_or_append_left s.starts.items (length s.held.items ∷ []) 0 i (rw es h));
       bw_old = λ i h. rw (k.owed, ← eo) (get_or_append_left s.owed.items (length s.todo.items ∷ []) 0 i (omega (arith, no)));
-      bs_new = rw (k.starts, ← es, ← eh) (at_end s.starts.items (length s.held.items));
+      bs_new = rw (k.starts, ← es, ← eh) (get_or_push s.starts.items (length s.held.items) 0 (length s.starts.items) refl);
       bw_new = ap (λ i. get_or t.owed.items i 0) (sym no) ∙ o1 ∙ na;
     }
 
@@ -116,7 +113,3 @@ closes_from t r s top empty above k =
         | inr q ↦ (let w : last_start r + 1 < length r.held.items = ltb-true (last_start r + 1) (length r.held.items) q.4 in inr (q.0, omega (arith, st, q.1), q.2, q.3, omega (arith, st, w)))
       ];
     }
-
-pub on_ok : {X E : Type 0} {P Q : Type 0} (r : Result X E) → (P → Q) → OnOk r P → OnOk r Q
-on_ok (Ok x) f p = f p
-on_ok (Err e) f p = p

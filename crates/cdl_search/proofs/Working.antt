@@ -30,9 +30,6 @@ zeros_le (suc x ∷ xs) (suc y ∷ ys) l f = zeros_le xs ys (omega arith) (λ v.
 fewer_times : (a b w : ℕ) → a + 1 ≡ b → b * w ≡ a * w + w
 fewer_times a b w e = let f : b ≡ suc a = omega arith in rw f (let g = suc-mul a w in omega (arith, g))
 
-times_le : (a b w : ℕ) → a ≤ b → a * w ≤ b * w
-times_le a b w h = mul-le-mul_right w h
-
 pub step_open : (first edges : List ℕ) (n a u : ℕ) (r s t : Search) → IsGraph first edges n → u < n → length r.marks.items ≡ n → a + 1 ≡ length r.todo.items → get_or r.marks.items u 0 ≡ 0 → s.marks.items ≡ r.marks.items → s.starts.items ≡ r.starts.items → s.todo.items ≡ take a r.todo.items → Pushed first edges u s t → Found first edges n t → Stepped first edges n r t
 step_open first edges n a u r s t g hu nr la new em es et k f =
     let lo : ℕ = get_or first u 0 in
@@ -89,7 +86,7 @@ step_close first edges n r s f h e k =
       ]
     ] in
     let zl : zeros s.marks.items ≤ zeros r.marks.items = zeros_le r.marks.items s.marks.items (sym k.done.marks) fresh in
-    let q : zeros s.marks.items * (length edges + 2) ≤ zeros r.marks.items * (length edges + 2) = times_le (zeros s.marks.items) (zeros r.marks.items) (length edges + 2) zl in
+    let q : zeros s.marks.items * (length edges + 2) ≤ zeros r.marks.items * (length edges + 2) = mul-le-mul_right (length edges + 2) zl in
     let nt : length s.todo.items ≡ length r.todo.items = ap (λ (y : List ℕ). length y) k.todo in
     let ns : length s.starts.items ≡ length (take t r.starts.items) = ap (λ (y : List ℕ). length y) k.starts in
     record {

@@ -1,5 +1,6 @@
 -- From a run of the machine to the first broken rule.
 use Rattle.std.proofs.Common.{◌≡◌, List, [], ◌∷◌, ◌++◌, refl, sym, ap, ◌∙◌, subst, inl, inr, ◌⊎◌, append_assoc, Result, Ok, Err}
+use Rattle.std.proofs.lemmas.List.{same_from_push}
 use Rattle.cdl_stations.specs.Keys.{Key, Before, In, Lists, to}
 use Rattle.cdl_stations.specs.Runs.{on_ok, goes, Went, Stops}
 use Rattle.cdl_stations.specs.FirstBroken.{IsBroken, NoneBroken, First, Agrees}
@@ -9,12 +10,6 @@ use Rattle.cdl_stations.proofs.Unique.{before_self, before_trans, lists_same, li
 nil_snoc : {X : Type 0} (ys : List X) (y : X) → [] ≡ ys ++ y ∷ [] → ⊥
 nil_snoc [] y e = cc
 nil_snoc (z ∷ zs) y e = cc
-
-pub snoc_same : {X : Type 0} (xs ys : List X) (x y : X) → xs ++ x ∷ [] ≡ ys ++ y ∷ [] → (xs ≡ ys) × (x ≡ y)
-snoc_same [] [] x y e = (refl, cc)
-snoc_same [] (z ∷ zs) x y e = absurd (nil_snoc zs y cc)
-snoc_same (z ∷ zs) [] x y e = absurd (nil_snoc zs x cc)
-snoc_same (w ∷ ws) (z ∷ zs) x y e = let same : (ws ≡ zs) × (x ≡ y) = snoc_same ws zs x y cc in (let front : w ≡ z = cc in ap (λ v. v ∷ ws) front ∙ ap (λ vs. z ∷ vs) same.0, same.1)
 
 pub record Splits {X : Type 0} (y : X) (xs : List X) : Type 0 where
   pub front : List X
@@ -52,7 +47,7 @@ module _ {M E F : Type 0} (step : M → E → Result M F) where
       let at : Splits {X = Key × E} (k, b.event) xs = split {X = Key × E} (k, b.event) xs (l.each k b.event (p k b.event (inr refl) s)) in
       let whole : xs ≡ (at.front ++ (k, b.event) ∷ []) ++ at.rest = at.are ∙ sym (append_assoc at.front ((k, b.event) ∷ []) at.rest) in
       let front : Lists (to S k) (at.front ++ (k, b.event) ∷ []) = lists_front S T at.front at.rest k b.event p q (subst (λ (zs : List (Key × E)). Lists T zs) whole l) in
-      let same : (b.earlier ≡ at.front) × ((k, b.event) ≡ (k, b.event)) = snoc_same b.earlier at.front (k, b.event) (k, b.event) (lists_same (to S k) _ _ b.lists front) in
+      let same : (b.earlier ≡ at.front) × ((k, b.event) ≡ (k, b.event)) = same_from_push b.earlier at.front (k, b.event) (k, b.event) (lists_same (to S k) _ _ b.lists front) in
       let both : Halves at.front ((k, b.event) ∷ at.rest) start c = halves at.front ((k, b.event) ∷ at.rest) start c (subst (λ (zs : List (Key × E)). goes step start zs ≡ Ok c) at.are h) in
       first_ok (step both.between b.event) (λ n. goes step n at.rest) c f both.second
       (a.fails at.front both.between b.event f both.first (subst (λ (zs : List (Key × E)). Bad zs b.event f) same.0 b.bad))
@@ -69,7 +64,7 @@ module _ {M E F : Type 0} (step : M → E → Result M F) where
 
   alone_at : (start : M) (Bad : List (Key × E) → E → F → Type 0) (S : Key → E → Type 0) (f g : F) → Agrees step start Bad → (w : Stops step S start f) → IsBroken Bad S w.at g → g ≡ f
   alone_at start Bad S f g a w b =
-      let same : (b.earlier ≡ w.entries) × ((w.at, b.event) ≡ (w.at, w.event)) = snoc_same b.earlier w.entries (w.at, b.event) (w.at, w.event) (lists_same (to S w.at) _ _ b.lists w.lists) in
+      let same : (b.earlier ≡ w.entries) × ((w.at, b.event) ≡ (w.at, w.event)) = same_from_push b.earlier w.entries (w.at, b.event) (w.at, w.event) (lists_same (to S w.at) _ _ b.lists w.lists) in
       let event : b.event ≡ w.event = ap (λ (z : Key × E). z.1) same.1 in
       err_same (step w.state w.event) f g w.fails (a.fails w.entries w.state w.event g w.goes
       (subst (λ (e : E). Bad w.entries e g) event (subst (λ (zs : List (Key × E)). Bad zs b.event g) same.0 b.bad)))

@@ -1,13 +1,13 @@
 -- Holds, read from their words, a tick further.
-use Rattle.std.proofs.Common.{◌≡◌, inl, refl, ℤ, List, [], ◌∷◌, Bool, true, false, cond, Option, Some, None, arith}
+use Rattle.std.proofs.Common.{◌≡◌, refl, ℤ, List, [], ◌∷◌, Bool, true, false, cond, Option, Some, None, arith}
 use Rattle.std.specs.Prelude.{pos, negsuc, ◌≤ℤ◌}
 use Rattle.std.specs.Int.RustNames.{int_le}
 use Rattle.std.proofs.lemmas.Int.{ints}
 use Rattle.cdl_values.specs.History.{History, Signature, IsHistory, Meaning, bit, is_on, last_time, tick, word}
 use Rattle.cdl_kinds.specs.Meaning.Timers.{Held, elapsed, held, held_from, true_false_hold}
 use Rattle.cdl_kinds.specs.States.{IsHoldState, hold_words, time_word}
-use Rattle.cdl_kind_laws.proofs.Past.{IsHeldUpTo, held_up_to, past}
-use Rattle.cdl_kind_laws.proofs.ValueWords.{bit_value}
+use Rattle.cdl_kind_laws.proofs.Past.{held_up_to, past}
+use Rattle.cdl_kind_laws.proofs.Standing.{hold_words_sound, last_low}
 use Rattle.cdl_timed.specs.Holding.{held_with}
 use Rattle.cdl_timed.specs.Runs.{time_of}
 use Rattle.cdl_timed.proofs.RunStates.{on_bit}
@@ -45,13 +45,5 @@ pub hold_stands : {p : Signature} {m : Meaning} (a b now n : ℤ) (s x y : List 
     → n ≡ now → u ≡ is_on (word x 0) → r ≡ (held_from a b (held_with was changed) n u).on → c ≡ Some ((held_from a b (held_with was changed) n u).changed) → y ≡ bit r ∷ time_word c ∷ [] → y ≡ hold_words (held a b (tick now x ∷ h))
 hold_stands a b now n s x y h was r u changed c i e f g j k l v q = rw (q, v, l, k, j, f, g, e) (rw (hold_again (held a b h) (changed_from_zero a b h (past (tick now x) h i))) refl)
 
-last_low : {p : Signature} {m : Meaning} (h : History) → IsHistory p m h → negsuc 0 ≤ℤ last_time h
-last_low [] s = omega (arith, ints)
-last_low (t ∷ h) s = omega (arith, ints, s.ticks.0.0)
-
-words_sound : (o : Option Held) (last : ℤ) → negsuc 0 ≤ℤ last → IsHeldUpTo last o → IsHoldState (hold_words o) last
-words_sound None last l s = record { size = refl; output = inl refl; changed = record { low = omega (arith, ints); high = l } }
-words_sound (Some y) last l s = record { size = refl; output = bit_value y.on; changed = s }
-
 pub hold_sound : {p : Signature} {m : Meaning} (a b last : ℤ) (s : List ℤ) (h : History) → IsHistory p m h → s ≡ hold_words (held a b h) → last ≡ last_time h → IsHoldState s last
-hold_sound a b last s h i e l = rw (e, l) (words_sound (held a b h) (last_time h) (last_low h i) (held_up_to a b h i))
+hold_sound a b last s h i e l = rw (e, l) (hold_words_sound (held a b h) (last_time h) (last_low h i) (held_up_to a b h i))

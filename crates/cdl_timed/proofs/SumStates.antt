@@ -2,6 +2,7 @@
 use Rattle.std.proofs.Common.{ℕ, ◌≡◌, zero, suc, refl, ap, inl, inr, ℤ, List, [], ◌∷◌, Bool, true, false, cond, not, ◌&&◌, arith}
 use Rattle.std.specs.Prelude.{pos, negsuc, ◌≤ℤ◌, ◌<ℤ◌, ◌+ℤ◌, ◌*ℤ◌}
 use Rattle.std.proofs.lemmas.Int.{ints}
+use Rattle.std.proofs.lemmas.Bool.{and_right}
 use Rattle.cdl_values.specs.declared.value.ValueType.TheVariants.{Boolean}
 use Rattle.cdl_values.specs.History.{AreValues, History, IsHistory, before, bit, is_on, last_time, rises, tick, typed, word}
 use Rattle.cdl_kinds.specs.Meaning.Timers.{accumulated, elapsed, since, timer_accumulating}
@@ -24,12 +25,8 @@ sum_known sum (negsuc zero) now true s l n = let f : true ≡ false = (s.none re
 sum_known sum (negsuc zero) now false s l n = let k = s.none refl in (omega (arith, ints, k.0), omega (arith, ints, k.0))
 sum_known sum (negsuc (suc last)) now u s l n = absurd (omega (arith, ints, s.low))
 
-never : (a : Bool) → (a && false) ≡ false
-never true = refl
-never false = refl
-
-rises_before : (h : History) (x : List ℤ) (i : ℕ) → (is_on (word x i) && not (is_on (before (pos 1) i h))) ≡ rises h x i
-rises_before [] x i = never (is_on (word x i))
+pub rises_before : (h : History) (x : List ℤ) (i : ℕ) → (is_on (word x i) && not (is_on (before (pos 1) i h))) ≡ rises h x i
+rises_before [] x i = and_right (is_on (word x i)) false refl
 rises_before (t ∷ h) x i = refl
 
 since_before : (h : History) (now : ℤ) → cond (is_on (before (pos 0) 0 h)) (elapsed (last_time h) now) (pos 0) ≡ since h now

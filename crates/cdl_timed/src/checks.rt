@@ -4,7 +4,7 @@ ghost use Rattle.cdl_values.specs.declared.value.ValueType.TheVariants.{Boolean,
 ghost use Rattle.cdl_values.specs.History.{AreValues, IsValue, booleans, integers, typed, word};
 ghost use Rattle.cdl_kinds.specs.States.{IsTimeUpTo};
 
-use cdl_source::LARGEST_INTEGER;
+use cdl_source::{LARGEST_INTEGER, LARGEST_REAL};
 use cdl_values::words::read;
 
 /// Whether the word is a Boolean.
@@ -25,7 +25,7 @@ pub fn is_integer(w: i64) -> bool
 pub fn is_real(w: i64) -> bool
     ensures { IsTrue result ↔ IsValue Real w }
 {
-    w.unsigned_abs() <= 10_000_000_000_000_000
+    w.unsigned_abs() <= LARGEST_REAL
 }
 
 /// Whether the word is that of a time that is not after the last, or -1 for none.

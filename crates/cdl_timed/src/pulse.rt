@@ -1,7 +1,8 @@
 // Pulses.
-ghost use Rattle.std.specs.Prelude.{◌≡◌, ◌<ℤ◌, ◌*ℤ◌, ◌-ℤ◌, ◌≤◌, [], length, pos, refl, unsigned_abs};
+ghost use Rattle.std.specs.Prelude.{◌≡◌, ◌<ℤ◌, ◌*ℤ◌, ◌-ℤ◌, ◌*◌, ◌≤◌, [], length, pos, refl, unsigned_abs};
 ghost use Rattle.std.specs.Int.{int_rem_euclid};
 ghost use Rattle.std.specs.Int.RustNames.{int_lt};
+ghost use Rattle.cdl_source.specs.declared.limits.TheConstants.{LARGEST_REAL};
 ghost use Rattle.cdl_values.specs.History.{IsTime, booleans, typed};
 ghost use Rattle.cdl_values.proofs.Laws.{by_all};
 ghost use Rattle.cdl_kinds.specs.Meaning.Timers.{pulse};
@@ -15,7 +16,7 @@ use std::sync::ledger::Ledger;
 // The count of a Real.
 fn wide(a: Real) -> i128
     ensures value { result ≡ a }
-    ensures small { unsigned_abs result ≤ 10000000000000000 }
+    ensures small { unsigned_abs result ≤ LARGEST_REAL }
 {
     a.count() as i128
 }
@@ -24,7 +25,7 @@ fn wide(a: Real) -> i128
 fn from_shift(shift: Real, now: i64) -> i128
     requires { IsTime now }
     ensures value { result ≡ now *ℤ pos 1000 -ℤ shift }
-    ensures small { unsigned_abs result ≤ 20000000000000000 }
+    ensures small { unsigned_abs result ≤ 2 * LARGEST_REAL }
 {
     now as i128 * 1000 - wide(shift)
 }
@@ -32,10 +33,10 @@ fn from_shift(shift: Real, now: i64) -> i128
 // What is left after whole periods.
 fn left(time: i128, period: i128) -> i128
     requires positive { pos 0 <ℤ period }
-    requires small { unsigned_abs period ≤ 10000000000000000 }
-    requires small_time { unsigned_abs time ≤ 20000000000000000 }
+    requires small { unsigned_abs period ≤ LARGEST_REAL }
+    requires small_time { unsigned_abs time ≤ 2 * LARGEST_REAL }
     ensures value { result ≡ int_rem_euclid time period }
-    ensures small { unsigned_abs result ≤ 10000000000000000 }
+    ensures small { unsigned_abs result ≤ LARGEST_REAL }
 {
     time.rem_euclid(period)
 }
@@ -45,7 +46,7 @@ fn place(period: Real, shift: Real, now: i64) -> i128
     requires positive { pos 0 <ℤ period }
     requires now { IsTime now }
     ensures value { result ≡ int_rem_euclid (now *ℤ pos 1000 -ℤ shift) period }
-    ensures small { unsigned_abs result ≤ 10000000000000000 }
+    ensures small { unsigned_abs result ≤ LARGEST_REAL }
 {
     left(from_shift(shift, now), wide(period))
 }
@@ -59,7 +60,7 @@ fn wide_product(a: Real, b: Real) -> i128
 
 // Whether the place, in millionths of the period, is below the width.
 fn is_in_width(place: i128, width: Real, period: Real) -> bool
-    requires { unsigned_abs place ≤ 10000000000000000 }
+    requires { unsigned_abs place ≤ LARGEST_REAL }
     ensures { result ≡ int_lt (place *ℤ pos 1000000) (width *ℤ period) }
 {
     place * 1_000_000 < wide_product(width, period)

@@ -36,7 +36,7 @@ fn number(text: &[u8]) -> Option<u32>
     Some(number)
 }
 
-/// The value of a whole number's text, None exactly where it is above 2147483647 or where a byte is no digit.
+/// The value of a whole number's text, None exactly where it is above `LARGEST_INTEGER` or where a byte is no digit.
 #[tactic(auto, using(crate::proofs::Integers::integer_is))]
 pub fn integer(text: &[u8]) -> Option<i32>
     ensures { result ≡ spec.integer_of text.now }

@@ -1,8 +1,8 @@
 use Rattle.std.proofs.Common.{arith, ◌≡◌, ◌+◌, ◌-◌, ◌<◌, ℕ, suc, length, get_or, sym, ◌∙◌, refl}
 use Rattle.std.proofs.lemmas.List.{get_or_read}
+use Rattle.std.proofs.lemmas.Result.{on_ok_weaker}
 use Rattle.cdl_search.proofs.Founds.{after_open, after_skip, after_merge}
 use Rattle.cdl_search.proofs.Working.{step_open, step_same}
-use Rattle.cdl_search.proofs.Glue.{on_ok}
 use Rattle.cdl_search.proofs.search.look.Goals as goal
 
 pub returns-then-mark-eq0 : goal.returns-then-mark-eq0
@@ -17,7 +17,7 @@ returns-then-mark-eq0 c =
     let au : get_or r.todo.items a 0 ≡ u = sym (get_or_read r.todo.items a u al c.index-u.ensures 0) in
     let hu : u < n = rw (← au) (c.requires.found.ranged.todo a al) in
     let mk : get_or r.marks.items u 0 ≡ 0 = sym (get_or_read r.marks.items u c.index-mark.result.now hu c.index-mark.ensures 0) ∙ c.if-mark-eq0.true in
-    on_ok c.push_segment.result (λ k. step_open c.args.first.now c.args.edges.now n a u r s c.push_segment.new.s c.requires.graph hu refl la mk refl refl c.truncate.ensures.items k (after_open c.args.first.now c.args.edges.now n a u r s c.push_segment.new.s c.requires.graph c.requires.found c.requires.more.0 c.requires.more.1 la au mk refl refl refl refl refl refl c.truncate.ensures.items k)) c.push_segment.ensures
+    on_ok_weaker c.push_segment.result (λ k. step_open c.args.first.now c.args.edges.now n a u r s c.push_segment.new.s c.requires.graph hu refl la mk refl refl c.truncate.ensures.items k (after_open c.args.first.now c.args.edges.now n a u r s c.push_segment.new.s c.requires.graph c.requires.found c.requires.more.0 c.requires.more.1 la au mk refl refl refl refl refl refl c.truncate.ensures.items k)) c.push_segment.ensures
 
 pub returns-then-mark-eq1 : goal.returns-then-mark-eq1
 returns-then-mark-eq1 c =
