@@ -6,7 +6,7 @@ ghost use Rattle.cdl_lex.specs.Splits.{Splits};
 ghost use Rattle.cdl_lex.specs.Rules.{IsNoToken, BreaksNone};
 ghost use Rattle.cdl_lex.specs.Texts.{AreTokens};
 
-/// Laws, which compute nothing: of a splitting and a first byte at which none goes on each text has exactly one, and just one such.
+/// Laws, which compute nothing: each text has either a splitting or a first byte at which none goes on, never both, and only one of it.
 #[tactic(auto, using(crate::proofs::Continues::splits_once))]
 pub fn one_splitting()
     ensures either { (bytes : Bytes) → ((ts : List Token) × Splits bytes ts) ⊎ ((at : ℕ) × IsNoToken bytes at) }
