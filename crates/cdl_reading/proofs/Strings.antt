@@ -1,5 +1,5 @@
 -- What the texts of strings mean, what the lexer takes for a string, and the rule that takes one.
-use Rattle.std.proofs.Common.{◌≡◌, ℕ, Bool, true, false, ◌||◌, ◌==◌, if◌then◌else◌, List, [], ◌∷◌, ◌++◌, Option, Some, None, Result, Ok, Err, IfNone, refl, sym, ap, ◌∙◌, subst}
+use Rattle.std.proofs.Common.{◌≡◌, ℕ, Bool, true, false, ◌||◌, ◌==◌, if◌then◌else◌, List, [], ◌∷◌, Option, Some, None, Result, Ok, Err, IfNone, refl, sym, ap, ◌∙◌, subst}
 use Rattle.cdl_source.specs.declared.place.TokenSort.{TokenSort}
 use Rattle.cdl_source.specs.declared.place.TokenSort.TheVariants.{Str}
 use Rattle.cdl_lex.specs.Spellings.{Bytes, is_escape, IsInside, nothing, plain, escape, Spelling, identifier, keyword, integer, real, string, symbol, pair}
@@ -10,7 +10,7 @@ use Rattle.cdl_tree.specs.inner.Strings.{string_of}
 use Rattle.cdl_tree.proofs.Meanings.{some_string, string_some}
 use Rattle.cdl_reading.specs.declared.cursor.Fault.{Fault}
 use Rattle.cdl_reading.specs.declared.cursor.Fault.TheVariants.{OutOfMemory, Syntax}
-use Rattle.cdl_reading.specs.Reading.{Outcome, sees, text, next, literal, literal_by}
+use Rattle.cdl_reading.specs.Reading.{Outcome, sees, text, literal, literal_by}
 use Rattle.cdl_reading.specs.Gives.{Gives, GivesMeaning}
 
 -- ---- the lexer's strings
