@@ -12,7 +12,9 @@ use Rattle.cdl_decimal.specs.Near.{near}
 use Rattle.cdl_decimal.specs.Spells.{Parts, IsSign, none, plus, minus, CountIs, number, with_sign, upper, lower}
 use Rattle.cdl_decimal.proofs.NearLaws.{near_is, near_one}
 use Rattle.cdl_decimal.proofs.ScaleLaws.{power_positive}
-use Rattle.cdl_tree.specs.Literals.{integer_of, IsReal, escaped, put, closed, unescaped, opened, string_of, behind}
+use Rattle.cdl_tree.specs.Literals.{integer_of, IsReal, escaped, IsString}
+use Rattle.cdl_tree.specs.inner.Strings.{put, closed, unescaped, opened, string_of, behind}
+use Rattle.cdl_tree.proofs.Meanings.{some_string}
 use Rattle.cdl_tree.specs.Spelled.{begins_with_digit}
 use Rattle.cdl_tree.specs.Formed.{is_integer, is_not_negative}
 use Rattle.cdl_tree.proofs.Shapes.{split}
@@ -192,6 +194,9 @@ opened_meant (c ∷ cs) s u e = go (c == 34) refl e
         utf8_meant cs s (IsUtf8-past_char (c ∷ cs) cs 34 u quote) g
     go false f g = cc
 
-pub string_utf8 : (text s : List ℕ) → is_utf8 text ≡ true → string_of text ≡ Some s → is_utf8 s ≡ true
+computed_utf8 : (text s : List ℕ) → is_utf8 text ≡ true → string_of text ≡ Some s → is_utf8 s ≡ true
 unfolding string_of
-string_utf8 text s u e = is_utf8-from_IsUtf8 s (opened_meant text s (IsUtf8-from_is_utf8 text u) e)
+computed_utf8 text s u e = is_utf8-from_IsUtf8 s (opened_meant text s (IsUtf8-from_is_utf8 text u) e)
+
+pub string_utf8 : (text s : List ℕ) → is_utf8 text ≡ true → IsString text s → is_utf8 s ≡ true
+string_utf8 text s u h = computed_utf8 text s u (some_string text s h)

@@ -8,7 +8,9 @@ use Rattle.cdl_tree.specs.declared.name.Ident.{Ident}
 use Rattle.cdl_tree.specs.declared.expr.Expr.{Expr}
 use Rattle.cdl_tree.specs.declared.expr.Node.TheVariants as node
 use Rattle.cdl_tree.specs.Words.{Lexeme, Word, same_terminal}
-use Rattle.cdl_tree.specs.Literals.{integer_of, string_of}
+use Rattle.cdl_tree.specs.Literals.{integer_of}
+use Rattle.cdl_tree.specs.inner.Strings.{string_of}
+use Rattle.cdl_tree.proofs.Meanings.{some_string, string_some}
 use Rattle.cdl_tree.specs.Trees.{the_ident, the_name, tree}
 use Rattle.cdl_tree.specs.Grammar.{ExprOf, Prim, integer as an_integer, real as a_real, string as a_string, true_word as a_true, false_word as a_false, paren as a_paren, array as an_array, call as a_call, refer as a_refer, Operands, no_operand, operands as some_operands, Subscripts, no_subscript, subscripts as some_subscripts, Exprs, one_expr, more_exprs}
 use Rattle.cdl_reading.specs.Reading.{Outcome, Parser, terminal, real_of}
@@ -245,7 +247,7 @@ module _ (d d' : ℕ) (whole whole' : Parser Expr) (h : Law d d' (λ u. ExprOf) 
   prim_in u w e (that (this (both (a_token t {a = q} h) (is_made m)))) =
       let at = literal_is the.Real real_of t q h in subst (Prim (t ∷ [])) (sym m) (a_real t at.0 (real_some t.text q at.1))
   prim_in u w e (that (that (this (both (a_token t {a = s} h) (is_made m))))) =
-      let at = literal_is the.Str string_of t s h in subst (Prim (t ∷ [])) (sym m) (a_string t at.0 at.1)
+      let at = literal_is the.Str string_of t s h in subst (Prim (t ∷ [])) (sym m) (a_string t at.0 (string_some t.text s at.1))
   prim_in u w e (that (that (that (this (both (a_token t {a = a} h) (is_made m)))))) = subst (Prim (t ∷ [])) (sym m) (a_true t (only_is the.True t.terminal a h))
   prim_in u w e (that (that (that (that (this (both (a_token t {a = a} h) (is_made m))))))) = subst (Prim (t ∷ [])) (sym m) (a_false t (only_is the.False t.terminal a h))
   prim_in u w e (that (that (that (that (that (this (both (a_token a {a = t} h) (closed b x g)))))))) = a_paren a b (only_is the.Open a.terminal t h) x g
@@ -259,7 +261,7 @@ module _ (d d' : ℕ) (whole whole' : Parser Expr) (h : Law d d' (λ u. ExprOf) 
   prim_out : (u w : Word) (e : Expr) → Prim w e → PrimR u w e
   prim_out u _ _ (an_integer t {z = z} h v) = this (both (a_token t (is_literal the.Integer integer_of t z h v)) (is_made refl))
   prim_out u _ _ (a_real t {q = q} h v) = that (this (both (a_token t (is_literal the.Real real_of t q h (some_real t.text q v))) (is_made refl)))
-  prim_out u _ _ (a_string t {s = s} h v) = that (that (this (both (a_token t (is_literal the.Str string_of t s h v)) (is_made refl))))
+  prim_out u _ _ (a_string t {s = s} h v) = that (that (this (both (a_token t (is_literal the.Str string_of t s h (some_string t.text s v))) (is_made refl))))
   prim_out u _ _ (a_true t h) = that (that (that (this (both (a_token t (is_only the.True t.terminal h)) (is_made refl)))))
   prim_out u _ _ (a_false t h) = that (that (that (that (this (both (a_token t (is_only the.False t.terminal h)) (is_made refl))))))
   prim_out u _ e (a_paren a b h x g) = that (that (that (that (that (this (both (a_token a (is_only the.Open a.terminal h)) (closed b x g)))))))

@@ -9,7 +9,8 @@ use Rattle.cdl_tree.specs.declared.expr.Op.TheVariants as op
 use Rattle.cdl_tree.specs.declared.expr.Expr.{Expr}
 use Rattle.cdl_tree.specs.declared.expr.Node.TheVariants as node
 use Rattle.cdl_tree.specs.Words.{Word}
-use Rattle.cdl_tree.specs.Literals.{integer_of, string_of}
+use Rattle.cdl_tree.specs.Literals.{integer_of}
+use Rattle.cdl_tree.specs.inner.Strings.{string_of}
 use Rattle.cdl_tree.specs.Trees.{the_name, comparison, sign, factor, tree}
 use Rattle.cdl_reading.specs.Reading.{Parser, ◌>>=◌, ◌>>◌, pure, refuse, peek, here, skip, eat, expect, ident, literal, real_of, made, list, list_from}
 

@@ -142,7 +142,7 @@ impl<F: Fn(Global, &mut Cursor<'_>, usize) -> Result<Expr, Fault>> Grammar<F> {
         Ok(tokens.made(Node::Real(value), &start))
     }
 
-    #[tactic(auto, unfolding(crate::specs::Expressions::string, cdl_reading::specs::Reading::made))]
+    #[tactic(auto, unfolding(crate::specs::Expressions::string, cdl_reading::specs::Reading::made), using(cdl_reading::proofs::Strings::gives_string))]
     fn string(&self, tokens: &mut Cursor<'_>) -> Result<Expr, Fault>
         ensures { Gives (spec.string self.now.depth (spec.expr self.now.depth) tokens.old) result tokens.new }
     {

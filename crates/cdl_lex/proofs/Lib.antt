@@ -11,3 +11,4 @@ pub mod Great
 pub mod Nested
 pub mod First
 pub mod Unbroken
+pub mod Always

@@ -5,3 +5,4 @@ pub mod Alike
 pub mod Laws
 pub mod Repeats
 pub mod Spelled
+pub mod Strings

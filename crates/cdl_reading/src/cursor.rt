@@ -5,7 +5,7 @@ ghost use Rattle.cdl_tree.specs.Terminals as lexemes;
 ghost use Rattle.cdl_tree.specs.Words as words;
 ghost use Rattle.cdl_tree.specs.Trees as trees;
 ghost use Rattle.cdl_tree.specs.Literals as literals;
-ghost use Rattle.cdl_reading.specs.Gives.{Gives};
+ghost use Rattle.cdl_reading.specs.Gives.{Gives, GivesMeaning};
 ghost use Rattle.cdl_reading.specs.Reading as spec;
 ghost use Rattle.cdl_reading.specs.Reading.{word_of};
 
@@ -215,9 +215,8 @@ impl<'a> Cursor<'a> {
     }
 
     /// Takes a string: the bytes that it means. `Syntax` where another token is next or the string is none; the token stays next.
-    #[tactic(auto, unfolding(crate::specs::Reading::literal))]
     pub fn string(&mut self, alloc: Global) -> Result<Text, Fault>
-        ensures { Gives (spec.literal Terminal.Str literals.string_of self.old) result self.new }
+        ensures { GivesMeaning Terminal.Str literals.IsString self.old result self.new }
     {
         if !self.sees(Terminal::Str) {
             return Err(Fault::Syntax);

@@ -6,5 +6,5 @@ mod law;
 mod lists;
 
 pub use cursor::{Cursor, Fault};
-pub use law::spelled_words;
+pub use law::{spelled_words, strings_mean};
 pub use lists::{list, list_behind};

@@ -1,6 +1,7 @@
 pub mod Reals
 pub mod Integers
 pub mod Strings
+pub mod Meanings
 mod Small
 mod SmallExprs
 mod SmallFiles

@@ -10,7 +10,7 @@ use Rattle.cdl_tree.specs.declared.class.Statement.TheVariants as statement
 use Rattle.cdl_tree.specs.declared.class.ClassTree.{ClassTree}
 use Rattle.cdl_tree.specs.declared.class.ClassTree.TheVariants as class
 use Rattle.cdl_tree.specs.declared.class.FileTree.{FileTree}
-use Rattle.cdl_tree.specs.Literals.{integer_of, string_of}
+use Rattle.cdl_tree.specs.Literals.{integer_of}
 use Rattle.cdl_tree.specs.Terminals.{lexemes, keyword, symbol}
 use Rattle.cdl_tree.specs.Trees.{tree, the_modifier, the_item, the_connect, the_loop, the_block, the_package, the_enumeration}
 use Rattle.cdl_tree.proofs.Small.{span, i, k, s, n, q, ident, spanned, named, modifier, declared, wire, turns, operand}
@@ -28,7 +28,7 @@ several =
 pub several_is : ClauseOf (lexemes (codes "final parameter P.T a[:, 2] \"first\" + \"words\", b(k = 1) = 2 if c;")
     (k 0 5 ∷ k 6 15 ∷ i 16 17 ∷ s 17 18 ∷ i 18 19 ∷ i 20 21 ∷ s 21 22 ∷ s 22 23 ∷ s 23 24 ∷ n 25 26 ∷ s 26 27 ∷ q 28 35 ∷ s 36 37 ∷ q 38 45 ∷
     s 45 46 ∷ i 47 48 ∷ s 48 49 ∷ i 49 50 ∷ s 51 52 ∷ n 53 54 ∷ s 54 55 ∷ s 56 57 ∷ n 58 59 ∷ k 60 62 ∷ i 63 64 ∷ s 64 65 ∷ [])) several
-unfolding tree the_modifier the_item the_connect the_block the_package the_enumeration keyword symbol integer_of string_of several
+unfolding tree the_modifier the_item the_connect the_block the_package the_enumeration keyword symbol integer_of several
 several_is =
     clause _ (present _ refl) (parameter _ refl) (dotted _ _ (single _ refl) refl refl)
     (more_decls _ (one_decl (decl _ refl (dims _ _ refl (more_dims _ (one_dim (any_size _ refl)) refl (a_size (operand (integer _ refl refl)))) refl) without_args
@@ -41,7 +41,7 @@ several_is =
 pub noted_is : Note (lexemes (codes "annotation(a[b]({c; end}, \"x\" ^ when))")
     (k 0 10 ∷ s 10 11 ∷ i 11 12 ∷ s 12 13 ∷ i 13 14 ∷ s 14 15 ∷ s 15 16 ∷ s 16 17 ∷ i 17 18 ∷ s 18 19 ∷ k 20 23 ∷ s 23 24 ∷ s 24 25 ∷ q 26 29 ∷
     s 30 31 ∷ k 32 36 ∷ s 36 37 ∷ s 37 38 ∷ []))
-unfolding tree the_modifier the_item the_connect the_block the_package the_enumeration keyword symbol integer_of string_of
+unfolding tree the_modifier the_item the_connect the_block the_package the_enumeration keyword symbol integer_of
 noted_is =
     note _ _ _ refl refl (other _ refl (enclosed _ _ refl (other _ refl nothing) refl
     (enclosed _ _ refl (enclosed _ _ refl (other _ refl (other _ refl (other _ refl nothing))) refl
@@ -60,7 +60,7 @@ pub constants_is : ClassOf (lexemes (codes "package P \"of numbers\" constant In
     (k 0 7 ∷ i 8 9 ∷ q 10 22 ∷ k 23 31 ∷ i 32 39 ∷ i 40 41 ∷ s 42 43 ∷ n 44 45 ∷ s 45 46 ∷ i 47 48 ∷ s 48 49 ∷ k 50 56 ∷ k 57 61 ∷ i 62 63 ∷
     s 64 65 ∷ k 66 77 ∷ s 77 78 ∷ i 78 81 ∷ s 81 82 ∷ i 83 87 ∷ q 88 93 ∷ s 93 94 ∷ k 95 105 ∷ s 105 106 ∷ s 106 107 ∷ s 107 108 ∷ k 109 112 ∷
     i 113 114 ∷ [])) constants (record { name = (ident (codes "P") 8 9); end = (ident (codes "P") 113 114) } ∷ [])
-unfolding tree the_modifier the_item the_connect the_block the_package the_enumeration keyword symbol integer_of string_of constants
+unfolding tree the_modifier the_item the_connect the_block the_package the_enumeration keyword symbol integer_of constants
 constants_is =
     a_package _ _ _ _ refl refl (text (one_string _ refl))
     (package_class _ (package_section _ (package_constant no_package_part (constant _ _ absent refl (single _ refl) (more_decls _
@@ -80,7 +80,7 @@ turned =
 
 pub turned_is : StatementOf (lexemes (codes "for i in 1:n loop for j in 2:i loop end for; connect(u, y); end for;")
     (k 0 3 ∷ i 4 5 ∷ k 6 8 ∷ n 9 10 ∷ s 10 11 ∷ i 11 12 ∷ k 13 17 ∷ k 18 21 ∷ i 22 23 ∷ k 24 26 ∷ n 27 28 ∷ s 28 29 ∷ i 29 30 ∷ k 31 35 ∷ k 36 39 ∷ k 40 43 ∷ s 43 44 ∷ k 45 52 ∷ s 52 53 ∷ i 53 54 ∷ s 54 55 ∷ i 56 57 ∷ s 57 58 ∷ s 58 59 ∷ k 60 63 ∷ k 64 67 ∷ s 67 68 ∷ [])) turned
-unfolding tree the_connect the_loop keyword symbol integer_of string_of turned
+unfolding tree the_connect the_loop keyword symbol integer_of turned
 turned_is =
     a_loop (loop _ _ _ _ _ _ _ _ refl refl refl (operand (integer _ refl refl)) refl (operand (refer (single _ refl) no_subscript)) refl
     (more_body (more_body no_body (a_loop (loop _ _ _ _ _ _ _ _ refl refl refl (operand (integer _ refl refl)) refl
@@ -101,7 +101,7 @@ pub wired_is : ClassOf (lexemes (codes "block M annotation(); protected Q u; equ
     (k 0 5 ∷ i 6 7 ∷ k 8 18 ∷ s 18 19 ∷ s 19 20 ∷ s 20 21 ∷ k 22 31 ∷ i 32 33 ∷ i 34 35 ∷ s 35 36 ∷ k 37 45 ∷ k 46 53 ∷ s 53 54 ∷ i 54 55 ∷
     s 55 56 ∷ i 57 58 ∷ s 58 59 ∷ n 59 60 ∷ s 60 61 ∷ s 61 62 ∷ i 62 63 ∷ s 63 64 ∷ q 65 71 ∷ s 71 72 ∷ k 73 83 ∷ s 83 84 ∷ s 84 85 ∷ s 85 86
     ∷ k 87 90 ∷ i 91 92 ∷ [])) wired (record { name = (ident (codes "M") 6 7); end = (ident (codes "N") 91 92) } ∷ [])
-unfolding tree the_modifier the_item the_connect the_block the_package the_enumeration keyword symbol integer_of string_of wired
+unfolding tree the_modifier the_item the_connect the_block the_package the_enumeration keyword symbol integer_of wired
 wired_is =
     a_block _ _ _ _ refl refl no_text (block_clause (block_section _ (block_note _ no_block_part (note _ _ _ refl refl nothing refl) refl) refl)
     (clause _ absent no_prefix (single _ refl) (one_decl (decl _ refl no_dim without_args no_value no_condition (tail no_text no_note))) refl))
@@ -122,7 +122,7 @@ pub placed_is : FileOf (lexemes (codes "within A.B; block M end M; package P end
     (k 0 6 ∷ i 7 8 ∷ s 8 9 ∷ i 9 10 ∷ s 10 11 ∷ k 12 17 ∷ i 18 19 ∷ k 20 23 ∷ i 24 25 ∷ s 25 26 ∷ k 27 34 ∷ i 35 36 ∷ k 37 40 ∷ i 41 42 ∷ s 42 43
     ∷ [])) placed (record { name = (ident (codes "M") 18 19); end = (ident (codes "M") 24 25) } ∷ record
     { name = (ident (codes "P") 35 36); end = (ident (codes "P") 41 42) } ∷ [])
-unfolding tree the_modifier the_item the_connect the_block the_package the_enumeration keyword symbol integer_of string_of placed
+unfolding tree the_modifier the_item the_connect the_block the_package the_enumeration keyword symbol integer_of placed
 placed_is =
     file (within _ _ refl (dotted _ _ (single _ refl) refl refl) refl)
     (more_classes _ (one_class _ (a_block _ _ _ _ refl refl no_text no_block_part no_equation refl refl) refl)
@@ -135,6 +135,6 @@ top =
 
 pub top_is : FileOf (lexemes (codes "within; block M end M;") (k 0 6 ∷ s 6 7 ∷ k 8 13 ∷ i 14 15 ∷ k 16 19 ∷ i 20 21 ∷ s 21 22 ∷ [])) top
     (record { name = (ident (codes "M") 14 15); end = (ident (codes "M") 20 21) } ∷ [])
-unfolding tree the_modifier the_item the_connect the_block the_package the_enumeration keyword symbol integer_of string_of top
+unfolding tree the_modifier the_item the_connect the_block the_package the_enumeration keyword symbol integer_of top
 top_is =
     file (within_top _ _ refl refl) (one_class _ (a_block _ _ _ _ refl refl no_text no_block_part no_equation refl refl) refl)

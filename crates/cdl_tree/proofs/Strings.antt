@@ -1,7 +1,7 @@
 -- A byte more of a string.
 use Rattle.std.proofs.Common.{◌≡◌, ◌≤◌, ◌-◌, ℕ, Bool, false, ◌==◌, List, [], ◌∷◌, ◌++◌, length, take, drop, slice_index_or, Option, Some, None, refl, sym, ap, ◌∙◌, append_assoc, arith, true, if◌then◌else◌}
 use Rattle.std.proofs.lemmas.List.{take_all}
-use Rattle.cdl_tree.specs.Literals.{behind, put, closed, unescaped}
+use Rattle.cdl_tree.specs.inner.Strings.{behind, put, closed, unescaped}
 
 pub one_byte : (bytes : List ℕ) (c : ℕ) (r : Option (List ℕ)) → behind (bytes ++ c ∷ []) r ≡ behind bytes (put (Some c) r)
 one_byte bytes c None = refl

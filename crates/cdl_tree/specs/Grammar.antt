@@ -25,7 +25,7 @@ use Rattle.cdl_tree.specs.declared.class.ClassTree.{ClassTree}
 use Rattle.cdl_tree.specs.declared.class.Closing.{Closing}
 use Rattle.cdl_tree.specs.declared.class.FileTree.{FileTree}
 use Rattle.cdl_tree.specs.Words.{Lexeme, Word}
-use Rattle.cdl_tree.specs.Literals.{integer_of, IsReal, string_of}
+use Rattle.cdl_tree.specs.Literals.{integer_of, IsReal, IsString}
 use Rattle.cdl_tree.specs.Trees.{the_ident, the_name, comparison, sign, factor, tree, the_modifier, listed, Head, the_item, the_part, the_ref, the_connect, the_loop, the_block, the_package, the_enumeration, the_closing, the_file}
 
 -- name = IDENT { "." IDENT }
@@ -85,7 +85,7 @@ mutual
   pub data Prim : Word → Expr → Type 0 where
     integer : (t : Lexeme) {z : ℤ} → t.terminal ≡ the.Integer → integer_of t.text ≡ Some z → Prim (t ∷ []) (tree (node.Integer z) (t ∷ []))
     real : (t : Lexeme) {q : ℤ} → t.terminal ≡ the.Real → IsReal t.text q → Prim (t ∷ []) (tree (node.Real q) (t ∷ []))
-    string : (t : Lexeme) {s : List ℕ} → t.terminal ≡ the.Str → string_of t.text ≡ Some s → Prim (t ∷ []) (tree (node.Str s) (t ∷ []))
+    string : (t : Lexeme) {s : List ℕ} → t.terminal ≡ the.Str → IsString t.text s → Prim (t ∷ []) (tree (node.Str s) (t ∷ []))
     true_word : (t : Lexeme) → t.terminal ≡ the.True → Prim (t ∷ []) (tree (node.Boolean true) (t ∷ []))
     false_word : (t : Lexeme) → t.terminal ≡ the.False → Prim (t ∷ []) (tree (node.Boolean false) (t ∷ []))
     paren : (a b : Lexeme) {w : Word} {e : Expr} → a.terminal ≡ the.Open → ExprOf w e → b.terminal ≡ the.Close → Prim (a ∷ (w ++ b ∷ [])) e

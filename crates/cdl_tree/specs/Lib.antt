@@ -8,3 +8,4 @@ pub mod Proper
 pub mod Spelled
 pub mod Formed
 pub mod FormedFiles
+pub mod inner

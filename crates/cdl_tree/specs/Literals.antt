@@ -1,5 +1,5 @@
 -- What the texts of literals mean.
-use Rattle.std.specs.Prelude.{ℕ, ◌+◌, ◌-◌, ◌*◌, ◌++◌, ℤ, pos, Bool, true, false, ◌&&◌, ◌||◌, ◌==◌, nat_le, if◌then◌else◌, List, [], ◌∷◌, Option, Some, None, Ok}
+use Rattle.std.specs.Prelude.{◌≡◌, ℕ, ◌+◌, ◌-◌, ◌*◌, ◌++◌, ℤ, pos, false, ◌&&◌, ◌||◌, ◌==◌, nat_le, if◌then◌else◌, List, [], ◌∷◌, Option, Some, None, Ok}
 use Rattle.cdl_source.specs.declared.limits.TheConstants.{LARGEST_INTEGER}
 use Rattle.std.specs.Char.{is_ascii_digit}
 use Rattle.std.specs.List.{list_all}
@@ -35,32 +35,15 @@ escaped c =
     (if c == 116 then Some 9 else
     (if c == 118 then Some 11 else None)))))))
 
--- the byte in front of the bytes, where both are there
-abbrev pub put : Option ℕ → Option (List ℕ) → Option (List ℕ)
-put (Some c) (Some cs) = Some (c ∷ cs)
-put (Some c) None = None
-put None rest = None
+-- What the bytes between the quotes of a string mean: a byte that is neither a quote nor a backslash means itself, and a backslash with
+-- the byte behind it the byte that this escape stands for.
+pub data Means : List ℕ → List ℕ → Type 0 where
+  nothing : Means [] []
+  plain : (c : ℕ) {b s : List ℕ} → (c == 34) ≡ false → (c == 92) ≡ false → Means b s → Means (c ∷ b) (c ∷ s)
+  escape : (c : ℕ) {d : ℕ} {b s : List ℕ} → escaped c ≡ Some d → Means b s → Means (92 ∷ c ∷ b) (d ∷ s)
 
--- the closing quote ends the text
-abbrev pub closed : List ℕ → Option (List ℕ)
-closed [] = Some []
-closed (c ∷ cs) = None
-
--- What the bytes up to the closing quote mean. The flag says whether a backslash stands before them.
-abbrev pub unescaped : Bool → List ℕ → Option (List ℕ)
-unescaped escape [] = None
-unescaped true (c ∷ cs) = put (escaped c) (unescaped false cs)
-unescaped false (c ∷ cs) = if c == 34 then closed cs else (if c == 92 then unescaped true cs else put (Some c) (unescaped false cs))
-
-abbrev pub opened : List ℕ → Option (List ℕ)
-opened [] = None
-opened (c ∷ cs) = if c == 34 then unescaped false cs else None
-
--- the bytes of a string without its quotes, and one byte for each escape
-unfoldable pub string_of : List ℕ → Option (List ℕ)
-string_of text = opened text
-
--- the bytes, and then what is behind them
-abbrev pub behind : List ℕ → Option (List ℕ) → Option (List ℕ)
-behind bytes None = None
-behind bytes (Some cs) = Some (bytes ++ cs)
+-- The text is a quote, bytes that mean the value, and a quote.
+pub record IsString (text value : List ℕ) : Type 0 where
+  pub inside : List ℕ
+  pub quoted : text ≡ 34 ∷ (inside ++ 34 ∷ [])
+  pub means : Means inside value

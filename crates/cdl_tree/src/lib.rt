@@ -14,7 +14,7 @@ pub use class::{
     Sub,
 };
 pub use expr::{Expr, Node, Op};
-pub use law::formed_is_proper;
+pub use law::{formed_is_proper, one_value};
 pub use literal::{integer, string};
 pub use name::{Ident, Name};
 pub use terminal::{Terminal, terminal_of};

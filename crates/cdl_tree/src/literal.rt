@@ -1,7 +1,9 @@
 // The values of literals.
-ghost use Rattle.std.specs.Prelude.{◌≡◌, ◌≤◌, false, Some, IfOk, IfSome};
+ghost use Rattle.std.specs.Prelude.{◌≡◌, ◌≤◌, ℕ, false, List, Some, IfOk, IfSome, IfNone};
 ghost use Rattle.cdl_source.specs.declared.limits.TheConstants.{LARGEST_INTEGER};
 ghost use Rattle.cdl_tree.specs.Literals as spec;
+ghost use Rattle.cdl_tree.specs.Literals.{IsString};
+ghost use Rattle.cdl_tree.specs.inner.Strings as strings;
 
 use cdl_source::{LARGEST_INTEGER, OutOfMemory, Text};
 use std::alloc::Global;
@@ -71,7 +73,7 @@ fn escaped(byte: u8) -> Option<u8>
 // What the bytes up to the closing quote mean.
 #[tactic(auto, using(crate::proofs::Strings::one_byte))]
 fn unescaped(alloc: Global, mut rest: &[u8]) -> Result<Option<Text>, OutOfMemory>
-    ensures { IfOk result (λ s. s ≡ spec.unescaped false rest.entry.now) }
+    ensures { IfOk result (λ s. s ≡ strings.unescaped false rest.entry.now) }
 {
     let mut bytes = Text::new(alloc);
     let mut escape = false;
@@ -94,14 +96,22 @@ fn unescaped(alloc: Global, mut rest: &[u8]) -> Result<Option<Text>, OutOfMemory
     Ok(None)
 }
 
-/// The bytes that a string's text means: without its quotes, and one byte for each escape. It is None exactly where the
-/// bytes are no string: a quote at each end and nowhere else, and behind each backslash one of `' " ? \ a b f n r t v`.
-#[tactic(auto, unfolding(crate::specs::Literals::string_of))]
-pub fn string(alloc: Global, text: &[u8]) -> Result<Option<Text>, OutOfMemory>
-    ensures { IfOk result (λ s. s ≡ spec.string_of text.now) }
+// What the text means, where a quote begins it.
+#[tactic(auto, unfolding(crate::specs::inner::Strings::string_of))]
+fn unquoted(alloc: Global, text: &[u8]) -> Result<Option<Text>, OutOfMemory>
+    ensures { IfOk result (λ s. s ≡ strings.string_of text.now) }
 {
     match text {
         [QUOTE, rest @ ..] => unescaped(alloc, rest),
         _ => Ok(None),
     }
+}
+
+/// The bytes that a string's text means: without its quotes, and one byte for each escape. It is None exactly where the
+/// bytes are no string: a quote at each end and nowhere else, and behind each backslash one of `' " ? \ a b f n r t v`.
+pub fn string(alloc: Global, text: &[u8]) -> Result<Option<Text>, OutOfMemory>
+    ensures means { IfOk result (λ s. IfSome s (IsString text.now)) }
+    ensures none { IfOk result (λ s. IfNone s ((value : List ℕ) → IsString text.now value → ⊥)) }
+{
+    unquoted(alloc, text)
 }

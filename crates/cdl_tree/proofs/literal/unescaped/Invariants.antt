@@ -1,5 +1,5 @@
 use Rattle.std.proofs.Common.{◌≡◌, false, length}
-use Rattle.cdl_tree.specs.Literals as spec
+use Rattle.cdl_tree.specs.inner.Strings as spec
 use Rattle.cdl_tree.proofs.literal.unescaped.Given as goal
 
 abbrev pub invariant-loop-rest : goal.invariant-loop-rest
