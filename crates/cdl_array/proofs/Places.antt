@@ -1,16 +1,13 @@
 -- Where items and parts stand.
-use Rattle.std.proofs.Common.{ℕ, ◌+◌, ◌-◌, ◌*◌, ◌≡◌, ◌<◌, ◌≤◌, suc, Bool, true, false, ◌&&◌, List, [], ◌∷◌, ◌++◌, Some, None, length, take, refl, arith, sym, ap, ◌∙◌, cond}
+use Rattle.std.proofs.Common.{ℕ, ◌+◌, ◌-◌, ◌*◌, ◌≡◌, ◌<◌, ◌≤◌, suc, true, ◌&&◌, List, [], ◌∷◌, ◌++◌, Some, None, length, take, refl, arith, sym, ap, ◌∙◌}
 use Rattle.std.proofs.lemmas.Bool.Decides.{nat_tests}
 use Rattle.std.proofs.lemmas.List.{take_all}
 use Rattle.std.proofs.lemmas.Nat.{mul-add-lt}
+use Rattle.std.proofs.lemmas.Option.{cond_some}
 use Rattle.std.proofs.Math.Nat.{mul_assoc, mul-le-mul_left}
 use Rattle.cdl_values.specs.Values.{IsArray, items_of}
 use Rattle.cdl_values.specs.declared.value.Array.{Array}
 use Rattle.cdl_array.specs.Parts.{place, is_within}
-
-chosen : (b : Bool) (m k : ℕ) → cond b (Some m) None ≡ Some k → (b ≡ true) × (m ≡ k)
-chosen true m k e = (refl, cc)
-chosen false m k e = cc
 
 grid : (n m i j : ℕ) → is_within n i && is_within m j ≡ true → (i - 1) * m + (j - 1) < n * (m * 1)
 grid n m i j e =
@@ -26,7 +23,7 @@ unfolding place
 place_below [] [] k e = grind arith
 place_below (n ∷ []) (i ∷ []) k e = grind (arith, nat_tests)
 place_below (n ∷ m ∷ []) (i ∷ j ∷ []) k e =
-    let w = chosen (is_within n i && is_within m j) ((i - 1) * m + (j - 1)) k e in
+    let w = cond_some (is_within n i && is_within m j) ((i - 1) * m + (j - 1)) k e in
     omega (arith, grid n m i j w.0, w.1)
 place_below _ _ k e = cc
 

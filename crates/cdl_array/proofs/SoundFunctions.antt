@@ -13,6 +13,7 @@ use Rattle.cdl_values.specs.declared.value.ValueType.TheVariants.{Integer as Int
 use Rattle.std.proofs.lemmas.List.{length-replicate, length-drop, length-take-le, take-append-drop}
 use Rattle.std.proofs.lemmas.List.Elements.{All-nil, All-cons, All-head, All-tail, All-replicate, All-take, All-drop}
 use Rattle.cdl_decimal.specs.Counts.{floor_whole}
+use Rattle.cdl_decimal.proofs.ScaleLaws.{in_range-some}
 use Rattle.cdl_values.specs.Extremes.{least, greatest}
 use Rattle.cdl_array.specs.declared.numbers.Numbers.{Numbers}
 use Rattle.cdl_array.specs.declared.numbers.Numbers.TheVariants.{Integers, Reals}
@@ -27,13 +28,13 @@ use Rattle.cdl_array.specs.Sizes.{size_of, count_of}
 use Rattle.cdl_array.specs.Parts.{place, place_of, are_scalars, are_subscripts, subscript, part}
 use Rattle.cdl_array.specs.Functions.{number_of, row_of, row_value, of_row, of_some, of_all, counts_in, magnitude, floor, dimension, dimension_value, of_scalar, chosen, of_two, filled_shape, filled_row, filled_rows, call}
 use Rattle.cdl_array.proofs.Places.{part_fits}
-use Rattle.cdl_array.proofs.SoundValues.{IsSound, first_is, scalar_value, scalar_is, some_gives, then_gives, holds_gives, integer_sound, real_sound, in_range_gives, made, given}
+use Rattle.cdl_array.proofs.SoundValues.{IsSound, first_is, scalar_value, scalar_is, some_gives, then_gives, holds_gives, integer_sound, real_sound, made, given}
 
 -- numbers of rows, and of scalars
 number_sound : (t : ValueType) (z : ℤ) (v : Value) → number_of t z ≡ Ok v → IsSound v
 unfolding number_of
 number_sound IntegerType z v e = integer_sound z v e
-number_sound RealType z v e = real_sound (in_range z) v (in_range_gives z) e
+number_sound RealType z v e = real_sound (in_range z) v (in_range-some z) e
 number_sound _ z v e = cc
 
 row_sound : (f : List ℤ → Outcome ℤ) (a : Array) (v : Value) → row_value f a ≡ Ok v → IsSound v
@@ -48,7 +49,7 @@ row_array f a c e = made (row_value f a) c (row_sound f a) e
 magnitude_sound : (x v : Value) → magnitude x ≡ Ok v → IsSound v
 unfolding magnitude
 magnitude_sound (Integer z) v e = integer_sound (pos (unsigned_abs z)) v e
-magnitude_sound (Real z) v e = real_sound (in_range (pos (unsigned_abs z))) v (in_range_gives (pos (unsigned_abs z))) e
+magnitude_sound (Real z) v e = real_sound (in_range (pos (unsigned_abs z))) v (in_range-some (pos (unsigned_abs z))) e
 magnitude_sound _ v e = cc
 
 floor_sound : (x v : Value) → IsSound x → floor x ≡ Ok v → IsSound v

@@ -13,6 +13,7 @@ use Rattle.std.specs.List.{All, list_all}
 use Rattle.std.proofs.lemmas.List.{length-map, length-append}
 use Rattle.std.proofs.lemmas.List.Elements.{All-nil, All-cons, All-head, All-tail, All-weaker, All-map, All-append}
 use Rattle.std.proofs.lemmas.Slice.Eq.{bytes_eq-Decides}
+use Rattle.std.proofs.lemmas.Bool.{and_parts}
 use Rattle.cdl_source.specs.declared.limits.TheConstants.{LARGEST_SIZE}
 use Rattle.cdl_source.specs.declared.rules.TheConstants.{WRONG_SHAPE, WRONG_TYPE, SIZE_OUT_OF_RANGE}
 use Rattle.cdl_array.specs.Outcomes.{holds_or}
@@ -21,11 +22,6 @@ use Rattle.cdl_array.specs.Types.{same_type, is_number, is_integer, is_real, hav
 use Rattle.cdl_array.specs.Literals.{have_shape, items_as, literal_like, literal}
 use Rattle.cdl_array.proofs.SoundValues.{then_gives, holds_gives, given}
 use Rattle.cdl_array.proofs.SoundFunctions.{millionths_in}
-
--- types, and values as values of another type
-both : (x y : Bool) → x && y ≡ true → (x ≡ true) × (y ≡ true)
-both true y e = (refl, e)
-both false y e = cc
 
 type_is : (t u : ValueType) → same_type t u ≡ true → t ≡ u
 unfolding same_type
@@ -65,7 +61,7 @@ number_becomes a e v h = as_real a.value_type v e h
 
 all_from : (p : Array → Bool) (P : Array → Type 0) → ((a : Array) → p a ≡ true → P a) → (xs : List Array) → list_all p xs ≡ true → All P xs
 all_from p P f [] e = All-nil P
-all_from p P f (x ∷ xs) e = let b = both (p x) (list_all p xs) e in All-cons P x xs (f x b.0) (all_from p P f xs b.1)
+all_from p P f (x ∷ xs) e = let b = and_parts (p x) (list_all p xs) e in All-cons P x xs (f x b.0) (all_from p P f xs b.1)
 
 common_cases : (same : Bool) (first t : ValueType) (xs : List Array) → (same ≡ true → All (Becomes first) xs) → cond same (Ok first) (holds_or (are_numbers xs) WRONG_TYPE (Ok RealType)) ≡ Ok t → All (Becomes t) xs
 common_cases true first t xs f e = let q : first ≡ t = cc in subst (λ (u : ValueType). All (Becomes u) xs) q (f refl)
@@ -89,7 +85,7 @@ items_each t (x ∷ xs) h b = All-append (IsOf t) (values_as t x.items) (items_a
 items_long : (t : ValueType) (shape : List ℕ) (xs : List Array) → All IsArray xs → have_shape shape xs ≡ true → length (items_as t xs) ≡ length xs * items_of shape
 items_long t shape [] h e = grind arith
 items_long t shape (x ∷ xs) h e =
-    let b = both (bytes_eq x.shape shape) (have_shape shape xs) e in
+    let b = and_parts (bytes_eq x.shape shape) (have_shape shape xs) e in
     let q : x.shape ≡ shape = (bytes_eq-Decides x.shape shape).0 b.0 in
     let whole : IsArray x = All-head IsArray x xs h in
     let one : length (values_as t x.items) ≡ items_of shape = rw length-map (whole.count ∙ ap items_of q) in
@@ -100,7 +96,7 @@ items_long t shape (x ∷ xs) h e =
 like_array : (first : ValueType) (shape : List ℕ) (xs : List Array) (c : Array) → All IsArray xs → literal_like first shape xs ≡ Ok c → IsArray c
 like_array first shape xs c h e =
     let s = holds_gives (nat_le (length shape) 1 && have_shape shape xs) WRONG_SHAPE _ c e in
-    let b = both (nat_le (length shape) 1) (have_shape shape xs) s.0 in
+    let b = and_parts (nat_le (length shape) 1) (have_shape shape xs) s.0 in
     let t = then_gives (common_type first xs) _ c s.1 in
     let k = holds_gives (nat_le (length xs) LARGEST_SIZE) SIZE_OUT_OF_RANGE _ c t.2 in
     let n = then_gives (count_of (length xs ∷ shape)) _ c k.1 in

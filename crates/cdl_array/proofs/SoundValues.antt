@@ -6,6 +6,7 @@ use Rattle.std.proofs.lemmas.Bool.Decides.{nat_tests}
 use Rattle.std.proofs.lemmas.List.Elements.{All-nil, All-cons, All-head}
 use Rattle.cdl_decimal.specs.Near.{InRange, in_range, near, near_signed}
 use Rattle.cdl_decimal.specs.Counts.{real_add, real_sub, real_mul, real_div}
+use Rattle.cdl_decimal.proofs.ScaleLaws.{in_range-some}
 use Rattle.cdl_values.specs.Values.{IsArray, IsOf}
 use Rattle.cdl_values.specs.declared.value.Array.{Array}
 use Rattle.cdl_values.specs.declared.value.Value.{Value}
@@ -67,16 +68,9 @@ bounded false z v h e = cc
 pub integer_sound : (z : ℤ) (v : Value) → integer_value z ≡ Ok v → IsSound v
 integer_sound z v e = bounded (nat_le (unsigned_abs z) 2147483647) z v (λ t. grind (arith, nat_tests)) e
 
-ranged : (b : Bool) (z n : ℤ) → (b ≡ true → InRange z) → cond b (Some z) None ≡ Some n → InRange n
-ranged true z n h e = let q : z ≡ n = cc in subst InRange q (h refl)
-ranged false z n h e = cc
-
-pub in_range_gives : (z n : ℤ) → in_range z ≡ Some n → InRange n
-in_range_gives z n e = ranged (nat_le (unsigned_abs z) 10000000000000000) z n (λ t. grind (arith, nat_tests)) e
-
 unless_gives : (b : Bool) (z n : ℤ) → cond b None (in_range z) ≡ Some n → InRange n
 unless_gives true z n e = cc
-unless_gives false z n e = in_range_gives z n e
+unless_gives false z n e = in_range-some z n e
 
 pub real_sound : (x : Option ℤ) (v : Value) → ((n : ℤ) → x ≡ Some n → InRange n) → real_value x ≡ Ok v → IsSound v
 real_sound None v h e = cc
@@ -85,17 +79,17 @@ real_sound (Some n) v h e = let q : Real n ≡ v = cc in subst IsSound q (h n re
 pub sum_sound : (n : Numbers) (v : Value) → sum_of n ≡ Ok v → IsSound v
 unfolding sum_of
 sum_sound (Integers a b) v e = integer_sound (a +ℤ b) v e
-sum_sound (Reals a b) v e = real_sound (real_add a b) v (in_range_gives (a +ℤ b)) e
+sum_sound (Reals a b) v e = real_sound (real_add a b) v (in_range-some (a +ℤ b)) e
 
 pub difference_sound : (n : Numbers) (v : Value) → difference_of n ≡ Ok v → IsSound v
 unfolding difference_of
 difference_sound (Integers a b) v e = integer_sound (a -ℤ b) v e
-difference_sound (Reals a b) v e = real_sound (real_sub a b) v (in_range_gives (a -ℤ b)) e
+difference_sound (Reals a b) v e = real_sound (real_sub a b) v (in_range-some (a -ℤ b)) e
 
 pub product_sound : (n : Numbers) (v : Value) → product_of n ≡ Ok v → IsSound v
 unfolding product_of
 product_sound (Integers a b) v e = integer_sound (a *ℤ b) v e
-product_sound (Reals a b) v e = real_sound (real_mul a b) v (in_range_gives (near (a *ℤ b) 1000000)) e
+product_sound (Reals a b) v e = real_sound (real_mul a b) v (in_range-some (near (a *ℤ b) 1000000)) e
 
 real_quotient_sound : (a b : ℤ) (v : Value) → real_value (real_div a b) ≡ Ok v → IsSound v
 real_quotient_sound a b v e = real_sound (real_div a b) v (unless_gives (unsigned_abs b == 0) (near_signed (a *ℤ pos 1000000) b)) e
@@ -142,7 +136,7 @@ unfolding unary_value
 unary_sound Plus (Integer z) v h e = let q : Integer z ≡ v = cc in subst IsSound q h
 unary_sound Plus (Real z) v h e = let q : Real z ≡ v = cc in subst IsSound q h
 unary_sound Minus (Integer z) v h e = integer_sound (pos 0 -ℤ z) v e
-unary_sound Minus (Real z) v h e = real_sound (real_sub (pos 0) z) v (in_range_gives (pos 0 -ℤ z)) e
+unary_sound Minus (Real z) v h e = real_sound (real_sub (pos 0) z) v (in_range-some (pos 0 -ℤ z)) e
 unary_sound Not (Boolean b) v h e = truth_sound (not b) v e
 unary_sound _ _ v h e = cc
 

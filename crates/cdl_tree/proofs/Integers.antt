@@ -7,17 +7,14 @@ use Rattle.std.specs.Option.{option_map}
 use Rattle.std.proofs.lemmas.Bool.{le-leb, leb-true}
 use Rattle.std.proofs.lemmas.Bool.Decides.{nat_tests}
 use Rattle.cdl_decimal.specs.Spells.{number_after}
+use Rattle.cdl_decimal.proofs.DigitLaws.{number_after-grows}
 use Rattle.cdl_tree.specs.Literals.{integer_from, integer_of}
 
 abbrev wanted : ℕ → List ℕ → Option ℤ
 wanted n ds = if list_all is_ascii_digit ds && nat_le (number_after n ds) LARGEST_INTEGER then Some (pos (number_after n ds)) else None
 
-grows : (ds : List ℕ) (n : ℕ) → n ≤ number_after n ds
-grows [] n = omega arith
-grows (d ∷ ds) n = let h : n * 10 + (d - 48) ≤ number_after (n * 10 + (d - 48)) ds = grows ds (n * 10 + (d - 48)) in omega arith
-
 too_great : (ds : List ℕ) (n : ℕ) → nat_le n LARGEST_INTEGER ≡ false → nat_le (number_after n ds) LARGEST_INTEGER ≡ false
-too_great ds n e = let h : n ≤ number_after n ds = grows ds n in grind (arith, nat_tests)
+too_great ds n e = let h : n ≤ number_after n ds = number_after-grows ds n in grind (arith, nat_tests)
 
 none_of : (b : Bool) (m : ℕ) → nat_le m LARGEST_INTEGER ≡ false → None ≡ (if b && nat_le m LARGEST_INTEGER then Some (pos m) else None)
 none_of true m e = rw e refl
