@@ -18,7 +18,11 @@ use Rattle.cdl_classes.specs.declared.found.ValueFound.{ValueFound}
 use Rattle.cdl_scopes.specs.declared.lookup.ClassSort.{ClassSort}
 use Rattle.cdl_scopes.specs.declared.lookup.ClassSort.TheVariants as sort
 use Rattle.cdl_scopes.specs.declared.lookup.Sought.TheVariants.{Value}
-use Rattle.cdl_scopes.specs.Classes.{Full, Declared, text_of}
+use Rattle.cdl_tree.specs.declared.class.FileTree.{FileTree}
+use Rattle.cdl_tree.specs.declared.name.Ident.{Ident}
+use Rattle.cdl_tree.specs.declared.name.Name.{Name}
+use Rattle.cdl_scopes.specs.declared.lookup.Sought.{Sought}
+use Rattle.cdl_scopes.specs.Classes.{Full, Declared, declared, parts_of, text_of}
 use Rattle.cdl_scopes.specs.Lookup.{Entity, a_class, a_package, in_cdl, in_modelica, a_type, a_constant, a_literal, first_named_from, first_named, first_of, item_name, member_names, meaning, sort_at, sort_of}
 use Rattle.cdl_classes.specs.Found.{value_of}
 use Rattle.cdl_classes.specs.Rules.{broken_12, class_of, class_place, if_broken, is_missing, is_none, places_from, places_in}
@@ -26,7 +30,7 @@ use Rattle.cdl_classes.specs.Table.{IsOf, IsValue, block_of, if_block, item_of, 
 use Rattle.cdl_classes.specs.inner.Kept.{AreItemClasses, classes_of}
 use Rattle.cdl_classes.specs.declared.found.Found.{Found}
 use Rattle.cdl_scopes.proofs.Lists.{get_at}
-use Rattle.cdl_scopes.proofs.Meaning.{Valid, yields_meaning}
+use Rattle.cdl_scopes.proofs.Meanings.{Valid, yields_meaning}
 use Rattle.cdl_scopes.proofs.Walk.{then_some}
 
 -- ---- the members of a class by its sort
@@ -205,3 +209,13 @@ module _ (ds : List Declared) (rows : List (Vec (Option Found) Global)) (t : Are
       let d = class_at in
       let there : is_missing ds i x ≡ false = none_from (is_missing ds) 0 i i ds d.0 j x (omega arith) unbroken d.1 (item_there x d.0 d.1 h) in
       false≢true (sym there ∙ ap is_none none)
+
+-- ---- the files that a table shows
+
+pub class_within : (files now : List FileTree) (i : ℕ) → files ≡ now → i < length (declared now) → (d : Declared) × (slice_get (declared files) i ≡ Some d)
+class_within files now i e l = get_at (declared files) i (let same : length (declared files) ≡ length (declared now) = ap (λ (fs : List FileTree). length (declared fs)) e in omega arith)
+
+pub same_meaning : (files now : List FileTree) (sought : Sought) (number : ℕ) (name : Name) (parts : List Ident) → files ≡ now → parts ≡ name.parts
+    → meaning (declared now) sought number (parts_of name) ≡ meaning (declared files) sought number (map text_of parts)
+same_meaning files now sought number name parts e p =
+    ap (λ (fs : List FileTree). meaning (declared fs) sought number (parts_of name)) (sym e) ∙ ap (λ (ps : List Ident). meaning (declared files) sought number (map text_of ps)) (sym p)

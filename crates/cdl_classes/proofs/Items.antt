@@ -21,7 +21,7 @@ use Rattle.cdl_classes.specs.Found.{joined, connector_named, connector_at, or_ki
 use Rattle.cdl_classes.specs.Places.{least, sooner}
 use Rattle.cdl_classes.specs.Rules.{places_in, places_from, IsKnown}
 use Rattle.cdl_scopes.proofs.Lists.{cases_option, drop_at}
-use Rattle.cdl_scopes.proofs.Meaning.{Valid, yields_meaning}
+use Rattle.cdl_scopes.proofs.Meanings.{Valid, yields_meaning}
 
 pub least-append : (first : Option Place) (ps qs : List Place) → least first (ps ++ qs) ≡ least (least first ps) qs
 least-append first [] qs = refl

@@ -1,6 +1,6 @@
 -- Names declared twice.
 use Rattle.std.proofs.lemmas.Option.{same_Some}
-use Rattle.std.proofs.Common.{◌≡◌, ◌⊎◌, ◌<◌, ◌≤◌, ◌+◌, ◌&&◌, ℕ, zero, suc, true, false, cond, List, [], ◌∷◌, ◌++◌, map, take, drop, Option, Some, None, Vec, is_some, refl, sym, ◌∙◌, ap, inl, inr, arith, append_assoc, append-nil, nat_lt}
+use Rattle.std.proofs.Common.{◌≡◌, ◌⊎◌, ◌<◌, ◌≤◌, ◌+◌, ◌&&◌, ℕ, zero, suc, true, false, cond, List, [], ◌∷◌, ◌++◌, map, take, drop, length, Option, Some, None, Vec, is_some, refl, sym, ◌∙◌, ap, inl, inr, arith, append_assoc, append-nil, nat_lt}
 use Rattle.std.specs.Prelude.{if◌then◌else◌, nat_le, ◌==◌}
 use Rattle.std.specs.declared.alloc.Global.{Global}
 use Rattle.std.specs.BTreeMap.{BTreeMap}
@@ -11,13 +11,16 @@ use Rattle.std.proofs.Math.ListN.{length-set}
 use Rattle.std.proofs.lemmas.List.{same_from_push, map-append}
 use Rattle.cdl_source.specs.declared.place.Place.{Place}
 use Rattle.cdl_tree.specs.declared.name.Ident.{Ident}
-use Rattle.cdl_scopes.specs.Classes.{Full, same_full, text_of}
-use Rattle.cdl_scopes.specs.Lookup.{first_named, first_named_from}
-use Rattle.cdl_scopes.specs.Numbered.{entry}
+use Rattle.cdl_scopes.specs.Classes.{Declared, Full, full, same_full, text_of}
+use Rattle.cdl_scopes.specs.Lookup.{first_from, first_named, first_named_from, first_of}
 use Rattle.cdl_classes.specs.Places.{not_after, soonest, latest, sooner, least}
 use Rattle.cdl_classes.specs.Rules.{Named, place, later_of, with_name, twice_from, again_from}
 use Rattle.cdl_classes.specs.inner.Marks.{mark_from, Marks, and_later}
-use Rattle.cdl_scopes.proofs.Lists.{get_written}
+use Rattle.cdl_scopes.specs.Entries.{entry}
+use Rattle.cdl_scopes.proofs.Lists.{get_at, get_written}
+use Rattle.cdl_scopes.proofs.Meanings.{first_within}
+use Rattle.cdl_scopes.proofs.Entries.{at}
+use Rattle.std.specs.Map.{lookup}
 use Rattle.cdl_scopes.proofs.Fronts.{same_bytes, bytes_same, same_is, same_self}
 use Rattle.cdl_classes.proofs.Items.{least-append}
 use Rattle.cdl_scopes.proofs.Lists.{drop_at}
@@ -152,41 +155,145 @@ pushed_same q p x y e = same_from_push q p x y e
 differs : (q p : Full) → (q ≡ p → ⊥) → same_full q p ≡ false
 differs q p h = false_from_ne_true (same_full q p) (λ e. h (same_is q p e))
 
--- one more name is noted
-pub noted : (maps : List (BTreeMap (Vec ℕ Global) Place)) (old new : BTreeMap (Vec ℕ Global) Place) (paths : List Full) (ns : List Named) (scope : ℕ) (q : Full) (x : List ℕ) (at s : Place)
-    → Marks maps paths ns → slice_get maps scope ≡ Some old → slice_get paths scope ≡ Some q
-    → ((y : List ℕ) → entry new y ≡ cond (bytes_eq y x) (Some s) (entry old y)) → Some s ≡ sooner (entry old x) at
-    → Marks (slice_set maps scope new) paths (ns ++ (record { full = q ++ x ∷ []; at = at }) ∷ [])
-noted maps old new paths ns scope q x at s h here path put is = record {
-  size = length-set maps scope new ∙ h.size;
-  once = h.once;
-  marked = λ n m r y a b.
-      let N : Named = record { full = q ++ x ∷ []; at = at } in
-      let push = mark_push (r ++ y ∷ []) None ns N in
-      elim (get_written maps new old m scope n here a) [
-        | inl w ↦
-            let scoped : r ≡ q = same_Some r q (sym b ∙ ap (λ i. slice_get paths i) w.0 ∙ path) in
-            elim (cases_Bool (bytes_eq y x)) [
-              | inl hit ↦
-                  let name : r ++ y ∷ [] ≡ q ++ x ∷ [] = cc (scoped, same_bytes y x hit) in
-                  let same : same_full (r ++ y ∷ []) (q ++ x ∷ []) ≡ true = ap (λ (z : Full). same_full z (q ++ x ∷ [])) name ∙ same_self (q ++ x ∷ []) in
-                  let value : cond (bytes_eq y x) (Some s) (entry old y) ≡ sooner (mark_from (r ++ y ∷ []) None ns) at =
-                  rw hit (is ∙ ap (λ (o : Option Place). sooner o at) (h.marked scope old q x here path ∙ ap (λ (z : Full). mark_from z None ns) (sym name))) in
-                  let after : mark_from (r ++ y ∷ []) None (ns ++ N ∷ []) ≡ sooner (mark_from (r ++ y ∷ []) None ns) at = push ∙ rw same refl in
-                  ap (λ (z : BTreeMap (Vec ℕ Global) Place). entry z y) w.1 ∙ put y ∙ value ∙ sym after
-              | inr miss ↦
-                  let other : same_full (r ++ y ∷ []) (q ++ x ∷ []) ≡ false = differs (r ++ y ∷ []) (q ++ x ∷ []) (λ e. false≢true (sym miss ∙ bytes_same y x (pushed_same r q y x e).1)) in
-                  let value : cond (bytes_eq y x) (Some s) (entry old y) ≡ mark_from (r ++ y ∷ []) None ns =
-                  rw miss (h.marked scope old q y here path ∙ ap (λ (z : Full). mark_from (z ++ y ∷ []) None ns) (sym scoped)) in
-                  let after : mark_from (r ++ y ∷ []) None (ns ++ N ∷ []) ≡ mark_from (r ++ y ∷ []) None ns = push ∙ rw other refl in
-                  ap (λ (z : BTreeMap (Vec ℕ Global) Place). entry z y) w.1 ∙ put y ∙ value ∙ sym after
-            ]
-        | inr w ↦
-            let other : same_full (r ++ y ∷ []) (q ++ x ∷ []) ≡ false = differs (r ++ y ∷ []) (q ++ x ∷ []) (λ e. w.0 (h.once n scope q (b ∙ ap (λ (z : Full). Some z) (pushed_same r q y x e).0) path)) in
-            let after : mark_from (r ++ y ∷ []) None (ns ++ N ∷ []) ≡ mark_from (r ++ y ∷ []) None ns = push ∙ rw other refl in
-            h.marked n m r y w.1 b ∙ sym after
-      ];
+not_ways : {A : Type 0} (i : ℕ) → Some i ≡ None → A
+not_ways i e = cc
+
+first_over : (k i : ℕ) (q : Full) (ds : List Declared) → first_from k q ds ≡ Some i → k ≤ i
+first_over k i q [] e = cc
+first_over k i q (d ∷ ds) e =
+    elim (cases_Bool (same_full q (full d))) [
+      | inl hit ↦
+          let same : k ≡ i = same_Some k i (rw hit at e) in
+          omega arith
+      | inr miss ↦
+          let rest = first_over (k + 1) i q ds (rw miss at e) in
+          omega arith
+    ]
+
+same_from : (k i : ℕ) (ds : List Declared) (q r : Full) → first_from k q ds ≡ Some i → first_from k r ds ≡ Some i → q ≡ r
+same_from k i [] q r a b = cc
+same_from k i (d ∷ ds) q r a b =
+    elim (cases_Bool (same_full q (full d))) [
+      | inl qh ↦
+          elim (cases_Bool (same_full r (full d))) [
+            | inl rh ↦ same_is q (full d) qh ∙ sym (same_is r (full d) rh)
+            | inr rm ↦
+                let e : k ≡ i = same_Some k i (rw qh at a) in
+                let l = first_over (k + 1) i r ds (rw rm at b) in
+                absurd (omega arith)
+          ]
+      | inr qm ↦
+          elim (cases_Bool (same_full r (full d))) [
+            | inl rh ↦
+                let e : k ≡ i = same_Some k i (rw rh at b) in
+                let l = first_over (k + 1) i q ds (rw qm at a) in
+                absurd (omega arith)
+            | inr rm ↦ same_from (k + 1) i ds q r (rw qm at a) (rw rm at b)
+          ]
+    ]
+
+-- two full names that one class is the first to have are the same
+same_first : (i : ℕ) (ds : List Declared) (q r : Full) → first_of q ds ≡ Some i → first_of r ds ≡ Some i → q ≡ r
+same_first i ds q r a b = same_from 0 i ds q r a b
+
+own_from : (k i : ℕ) (ds : List Declared) (d : Declared) → slice_get ds i ≡ Some d → first_from k (full d) ds ≡ None → ⊥
+own_from k i [] d at none = cc
+own_from k zero (e ∷ ds) d at none =
+    let same : e ≡ d = same_Some e d at in
+    let hit : same_full (full d) (full e) ≡ true = ap (λ (x : Declared). same_full (full d) (full x)) same ∙ same_self (full d) in
+    not_ways k (rw hit at none)
+own_from k (suc i) (e ∷ ds) d at none =
+    elim (cases_Bool (same_full (full d) (full e))) [
+      | inl hit ↦ not_ways k (rw hit at none)
+      | inr miss ↦ own_from (k + 1) i ds d at (rw miss at none)
+    ]
+
+-- a declared class is found by its full name
+pub own_first : (i : ℕ) (ds : List Declared) (d : Declared) → slice_get ds i ≡ Some d → first_of (full d) ds ≡ None → ⊥
+own_first i ds d at none = own_from 0 i ds d at none
+
+pub empty_marks : (ds : List Declared) (classes : List (Option Place)) (constants : List (BTreeMap (Vec ℕ Global) Place)) → length classes ≡ length ds → length constants ≡ length ds
+    → ((n : ℕ) (o : Option Place) → slice_get classes n ≡ Some o → o ≡ None) → ((n : ℕ) (m : BTreeMap (Vec ℕ Global) Place) → slice_get constants n ≡ Some m → m.entries ≡ [])
+    → Marks ds classes constants []
+empty_marks ds classes constants many size none empty = record {
+  many = many;
+  size = size;
+  of_class = λ i q e.
+      let g = get_at classes i (omega (arith, first_within i q ds e, many)) in
+      g.1 ∙ ap (λ (o : Option Place). Some o) (none i g.0 g.1);
+  of_constant = λ i m q x e fresh there. ap (lookup (at x)) (empty i m there);
 }
+
+module _ (ds : List Declared) (classes : List (Option Place)) (constants : List (BTreeMap (Vec ℕ Global) Place)) (ns : List Named) (h : Marks ds classes constants ns) where
+  -- one more name of a class is noted
+  pub noted_class : (p : ℕ) (q : Full) (at s : Place) → first_of q ds ≡ Some p → Some s ≡ sooner (mark_from q None ns) at
+      → Marks ds (slice_set classes p (Some s)) constants (ns ++ (record { full = q; at = at }) ∷ [])
+  noted_class p q at s f put =
+      let N : Named = record { full = q; at = at } in
+      record {
+        many = length-set classes p (Some s) ∙ h.many;
+        size = h.size;
+        of_class = λ i r e.
+            let push = mark_push r None ns N in
+            let g = get_at (slice_set classes p (Some s)) i (omega (arith, first_within i r ds e, length-set classes p (Some s), h.many)) in
+            elim (get_written classes (Some s) (mark_from q None ns) g.0 p i (h.of_class p q f) g.1) [
+              | inl w ↦
+                  let same : r ≡ q = same_first i ds r q e (f ∙ ap (λ (j : ℕ). Some j) (sym w.0)) in
+                  let hit : same_full r q ≡ true = ap (λ (z : Full). same_full z q) same ∙ same_self q in
+                  let after : mark_from r None (ns ++ N ∷ []) ≡ sooner (mark_from r None ns) at = push ∙ rw hit refl in
+                  g.1 ∙ ap (λ (o : Option Place). Some o) (w.1 ∙ put ∙ ap (λ (z : Full). sooner (mark_from z None ns) at) (sym same) ∙ sym after)
+              | inr w ↦
+                  let other : same_full r q ≡ false = differs r q (λ eq. w.0 (same_Some i p (sym e ∙ ap (λ (z : Full). first_of z ds) eq ∙ f))) in
+                  let after : mark_from r None (ns ++ N ∷ []) ≡ mark_from r None ns = push ∙ rw other refl in
+                  g.1 ∙ sym w.1 ∙ h.of_class i r e ∙ ap (λ (o : Option Place). Some o) (sym after)
+            ];
+        of_constant = λ i m r x e none there.
+            let other : same_full (r ++ x ∷ []) q ≡ false = differs (r ++ x ∷ []) q (λ eq. not_ways p (sym f ∙ ap (λ (z : Full). first_of z ds) (sym eq) ∙ none)) in
+            let after : mark_from (r ++ x ∷ []) None (ns ++ N ∷ []) ≡ mark_from (r ++ x ∷ []) None ns = mark_push (r ++ x ∷ []) None ns N ∙ rw other refl in
+            h.of_constant i m r x e none there ∙ sym after;
+      }
+
+  -- one more name of another constant is noted
+  pub noted_constant : (old new : BTreeMap (Vec ℕ Global) Place) (p : ℕ) (q : Full) (x : List ℕ) (at s : Place) → first_of q ds ≡ Some p → first_of (q ++ x ∷ []) ds ≡ None
+      → slice_get constants p ≡ Some old → ((y : List ℕ) → entry new y ≡ cond (bytes_eq y x) (Some s) (entry old y)) → Some s ≡ sooner (entry old x) at
+      → Marks ds classes (slice_set constants p new) (ns ++ (record { full = q ++ x ∷ []; at = at }) ∷ [])
+  noted_constant old new p q x at s f none here put is =
+      let N : Named = record { full = q ++ x ∷ []; at = at } in
+      record {
+        many = h.many;
+        size = length-set constants p new ∙ h.size;
+        of_class = λ i r e.
+            let other : same_full r (q ++ x ∷ []) ≡ false = differs r (q ++ x ∷ []) (λ eq. not_ways i (sym e ∙ ap (λ (z : Full). first_of z ds) eq ∙ none)) in
+            let after : mark_from r None (ns ++ N ∷ []) ≡ mark_from r None ns = mark_push r None ns N ∙ rw other refl in
+            h.of_class i r e ∙ ap (λ (o : Option Place). Some o) (sym after);
+        of_constant = λ i m r y e fresh there.
+            let push = mark_push (r ++ y ∷ []) None ns N in
+            elim (get_written constants new old m p i here there) [
+              | inl w ↦
+                  let scoped : r ≡ q = same_first i ds r q e (f ∙ ap (λ (j : ℕ). Some j) (sym w.0)) in
+                  elim (cases_Bool (bytes_eq y x)) [
+                    | inl hit ↦
+                        let name : r ++ y ∷ [] ≡ q ++ x ∷ [] = cc (scoped, same_bytes y x hit) in
+                        let same : same_full (r ++ y ∷ []) (q ++ x ∷ []) ≡ true = ap (λ (z : Full). same_full z (q ++ x ∷ [])) name ∙ same_self (q ++ x ∷ []) in
+                        let value : cond (bytes_eq y x) (Some s) (entry old y) ≡ sooner (mark_from (r ++ y ∷ []) None ns) at =
+                        rw hit (is ∙ ap (λ (o : Option Place). sooner o at) (h.of_constant p old q x f none here ∙ ap (λ (z : Full). mark_from z None ns) (sym name))) in
+                        let after : mark_from (r ++ y ∷ []) None (ns ++ N ∷ []) ≡ sooner (mark_from (r ++ y ∷ []) None ns) at = push ∙ rw same refl in
+                        ap (λ (z : BTreeMap (Vec ℕ Global) Place). entry z y) w.1 ∙ put y ∙ value ∙ sym after
+                    | inr miss ↦
+                        let other : same_full (r ++ y ∷ []) (q ++ x ∷ []) ≡ false = differs (r ++ y ∷ []) (q ++ x ∷ []) (λ eq. false≢true (sym miss ∙ bytes_same y x (pushed_same r q y x eq).1)) in
+                        let absent : first_of (q ++ y ∷ []) ds ≡ None = ap (λ (z : Full). first_of (z ++ y ∷ []) ds) (sym scoped) ∙ fresh in
+                        let value : cond (bytes_eq y x) (Some s) (entry old y) ≡ mark_from (r ++ y ∷ []) None ns =
+                        rw miss (h.of_constant p old q y f absent here ∙ ap (λ (z : Full). mark_from (z ++ y ∷ []) None ns) (sym scoped)) in
+                        let after : mark_from (r ++ y ∷ []) None (ns ++ N ∷ []) ≡ mark_from (r ++ y ∷ []) None ns = push ∙ rw other refl in
+                        ap (λ (z : BTreeMap (Vec ℕ Global) Place). entry z y) w.1 ∙ put y ∙ value ∙ sym after
+                  ]
+              | inr w ↦
+                  let other : same_full (r ++ y ∷ []) (q ++ x ∷ []) ≡ false =
+                  differs (r ++ y ∷ []) (q ++ x ∷ []) (λ eq. w.0 (same_Some i p (sym e ∙ ap (λ (z : Full). first_of z ds) (pushed_same r q y x eq).0 ∙ f))) in
+                  let after : mark_from (r ++ y ∷ []) None (ns ++ N ∷ []) ≡ mark_from (r ++ y ∷ []) None ns = push ∙ rw other refl in
+                  h.of_constant i m r y e fresh w.1 ∙ sym after
+            ];
+      }
 
 any_named : (i : ℕ) (x : List ℕ) (names : List (List ℕ)) → is_some (first_named_from i x names) ≡ list_any (bytes_eq x) names
 any_named i x [] = refl

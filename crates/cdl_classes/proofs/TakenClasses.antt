@@ -1,16 +1,17 @@
 -- Names that are not free, class by class.
-use Rattle.std.proofs.Common.{◌≡◌, ◌<◌, ◌+◌, ℕ, true, false, List, ◌∷◌, ◌++◌, drop, get_or, length, Option, Some, suc, sym, ◌∙◌, ap, drop-cons, add-one, append-nil}
+use Rattle.std.proofs.Common.{◌≡◌, ◌<◌, ◌+◌, ℕ, true, false, List, map, ◌∷◌, ◌++◌, drop, get_or, length, Option, Some, suc, sym, ◌∙◌, ap, drop-cons, add-one, append-nil}
 use Rattle.std.specs.List.{slice_get}
 use Rattle.cdl_source.specs.declared.place.Place.{Place}
+use Rattle.cdl_tree.specs.declared.name.Ident.{Ident}
 use Rattle.cdl_tree.specs.declared.class.Item.{Item}
 use Rattle.cdl_tree.specs.declared.class.ClassTree.{ClassTree}
-use Rattle.cdl_tree.specs.Parts.{class_name, items_of}
+use Rattle.cdl_tree.specs.Parts.{class_name, items_of, literals_of}
 use Rattle.cdl_scopes.specs.declared.lookup.ClassSort.{ClassSort}
 use Rattle.cdl_scopes.specs.declared.lookup.ClassSort.TheVariants as sort
 use Rattle.cdl_scopes.specs.Classes.{Full, Declared, full}
 use Rattle.cdl_scopes.specs.Lookup.{sort_of}
 use Rattle.cdl_classes.specs.Places.{least}
-use Rattle.cdl_classes.specs.Rules.{place, constants_of, own_names, is_taken, is_package, if_broken, taken_constants, type_names, taken_in, taken_of}
+use Rattle.cdl_classes.specs.Rules.{place, constants_of, own_names, is_taken, is_package, if_broken, name_ident, taken_constants, type_names, taken_in, taken_of}
 use Rattle.cdl_classes.proofs.Items.{least-append}
 use Rattle.cdl_scopes.proofs.Lists.{drop_at}
 
@@ -46,6 +47,20 @@ module _ (ds : List Declared) (d : Declared) (tree : ClassTree) (first own : Opt
       let it : List Place = taken_constants ds d.file (full d) (items_of d.tree) in
       ap (λ (xs : List Item). least own (taken_constants ds d.file (full d) xs)) (ap items_of (sym same))
       ∙ ap (λ (x : Option Place). least x it) o ∙ ap (least (begun sort.Package)) (sym (append-nil it)) ∙ sym (whole sort.Package k)
+
+  pub taken_block_class : sort.Block ≡ sort_of tree → own ≡ least first (if_broken (is_taken ds false d.outer (class_name tree).text) (place d.file (class_name tree)))
+      → least own (type_names d.file (map name_ident (items_of tree))) ≡ least first (taken_in ds d)
+  unfolding begun rest_taken
+  taken_block_class k o =
+      let it : List Place = type_names d.file (map name_ident (items_of d.tree)) in
+      ap (λ (xs : List Item). least own (type_names d.file (map name_ident xs))) (ap items_of (sym same)) ∙ ap (λ (x : Option Place). least x it) o ∙ sym (whole sort.Block k)
+
+  pub taken_enumeration_class : sort.Enumeration ≡ sort_of tree → own ≡ least first (if_broken (is_taken ds false d.outer (class_name tree).text) (place d.file (class_name tree)))
+      → least own (type_names d.file (literals_of tree)) ≡ least first (taken_in ds d)
+  unfolding begun rest_taken
+  taken_enumeration_class k o =
+      let it : List Place = type_names d.file (literals_of d.tree) in
+      ap (λ (xs : List Ident). least own (type_names d.file xs)) (ap literals_of (sym same)) ∙ ap (λ (x : Option Place). least x it) o ∙ sym (whole sort.Enumeration k)
 
 pub next_taken : (whole ds : List Declared) (i : ℕ) (d : Declared) (first : Option Place) → slice_get ds i ≡ Some d
     → least (least first (taken_in whole d)) (taken_of whole (drop (i + 1) ds)) ≡ least first (taken_of whole (drop i ds))

@@ -20,26 +20,26 @@ use Rattle.cdl_scopes.proofs.Lists.{drop_at}
 use Rattle.cdl_classes.proofs.MarkLaws.{twice_append, taken_more}
 
 -- further names are noted, and the first place is known
-abbrev pub Step : List Full → List (BTreeMap (Vec ℕ Global) Place) → Option Place → Option Place → List Named → List Named → Type 0
-Step paths maps first next ns xs = Marks maps paths (ns ++ xs) × (next ≡ least first (twice_from ns xs))
+abbrev pub Step : List Declared → List (Option Place) → List (BTreeMap (Vec ℕ Global) Place) → Option Place → Option Place → List Named → List Named → Type 0
+Step ds classes maps first next ns xs = Marks ds classes maps (ns ++ xs) × (next ≡ least first (twice_from ns xs))
 
-pub compose : (paths : List Full) (maps : List (BTreeMap (Vec ℕ Global) Place)) (first mid last : Option Place) (ns xs ys : List Named) → mid ≡ least first (twice_from ns xs)
-    → Step paths maps mid last (ns ++ xs) ys → Step paths maps first last ns (xs ++ ys)
-compose paths maps first mid last ns xs ys m s = (
-  subst (λ (z : List Named). Marks maps paths z) (append_assoc ns xs ys) s.0,
+pub compose : (ds : List Declared) (classes : List (Option Place)) (maps : List (BTreeMap (Vec ℕ Global) Place)) (first mid last : Option Place) (ns xs ys : List Named) → mid ≡ least first (twice_from ns xs)
+    → Step ds classes maps mid last (ns ++ xs) ys → Step ds classes maps first last ns (xs ++ ys)
+compose ds classes maps first mid last ns xs ys m s = (
+  subst (λ (z : List Named). Marks ds classes maps z) (append_assoc ns xs ys) s.0,
   s.1 ∙ ap (λ (f : Option Place). least f (twice_from (ns ++ xs) ys)) m ∙ sym (least-append first (twice_from ns xs) (twice_from (ns ++ xs) ys))
       ∙ ap (least first) (sym (twice_append ns xs ys)),
 )
 
-pub one_step : (paths : List Full) (maps : List (BTreeMap (Vec ℕ Global) Place)) (first next : Option Place) (ns : List Named) (n : Named) → Marks maps paths (ns ++ n ∷ [])
-    → next ≡ least first (map (later_of n.at) (filter (with_name n.full) ns)) → Step paths maps first next ns (n ∷ [])
-one_step paths maps first next ns n m e = (m, e ∙ ap (least first) (sym (append-nil (map (later_of n.at) (filter (with_name n.full) ns)))))
+pub one_step : (ds : List Declared) (classes : List (Option Place)) (maps : List (BTreeMap (Vec ℕ Global) Place)) (first next : Option Place) (ns : List Named) (n : Named) → Marks ds classes maps (ns ++ n ∷ [])
+    → next ≡ least first (map (later_of n.at) (filter (with_name n.full) ns)) → Step ds classes maps first next ns (n ∷ [])
+one_step ds classes maps first next ns n m e = (m, e ∙ ap (least first) (sym (append-nil (map (later_of n.at) (filter (with_name n.full) ns)))))
 
-pub step_as : (paths : List Full) (maps : List (BTreeMap (Vec ℕ Global) Place)) (first next : Option Place) (ns xs ys : List Named) → xs ≡ ys → Step paths maps first next ns xs → Step paths maps first next ns ys
-step_as paths maps first next ns xs ys e s = let P : List Named → Type 0 = λ zs. Step paths maps first next ns zs in subst P e s
+pub step_as : (ds : List Declared) (classes : List (Option Place)) (maps : List (BTreeMap (Vec ℕ Global) Place)) (first next : Option Place) (ns xs ys : List Named) → xs ≡ ys → Step ds classes maps first next ns xs → Step ds classes maps first next ns ys
+step_as ds classes maps first next ns xs ys e s = let P : List Named → Type 0 = λ zs. Step ds classes maps first next ns zs in subst P e s
 
-pub no_step : (paths : List Full) (maps : List (BTreeMap (Vec ℕ Global) Place)) (first : Option Place) (ns : List Named) → Marks maps paths ns → Step paths maps first first ns []
-no_step paths maps first ns m = (subst (λ (z : List Named). Marks maps paths z) (sym (append-nil ns)) m, refl)
+pub no_step : (ds : List Declared) (classes : List (Option Place)) (maps : List (BTreeMap (Vec ℕ Global) Place)) (first : Option Place) (ns : List Named) → Marks ds classes maps ns → Step ds classes maps first first ns []
+no_step ds classes maps first ns m = (subst (λ (z : List Named). Marks ds classes maps z) (sym (append-nil ns)) m, refl)
 
 pub constants_more : (d : Declared) (items : List Item) (i : ℕ) (x : Item) → slice_get items i ≡ Some x → map (constant_named d) (take i items) ++ constant_named d x ∷ [] ≡ map (constant_named d) (take (i + 1) items)
 constants_more d items i x e = sym (ap (map (constant_named d)) (taken_more items i x e) ∙ map-append (constant_named d) (take i items) (x ∷ []))
@@ -77,3 +77,6 @@ name_at q x p = record { full = q ++ x ∷ []; at = p }
 
 pub name_is : (q : Full) (x y : List ℕ) (p r : Place) → x ≡ y → p ≡ r → name_at q x p ≡ name_at q y r
 name_is q x y p r e f = ap (λ (z : List ℕ). name_at q z p) e ∙ ap (λ (z : Place). name_at q y z) f
+
+pub named_is : (q : Full) (p r : Place) → p ≡ r → (let n : Named = record { full = q; at = p } in n) ≡ (record { full = q; at = r })
+named_is q p r e = ap (λ (z : Place). let n : Named = record { full = q; at = z } in n) e

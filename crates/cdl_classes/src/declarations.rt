@@ -2,24 +2,20 @@
 ghost use Rattle.std.specs.Prelude.{◌≡◌, ◌<◌, ◌≤◌, ◌^◌, [], IfErr, IfOk, List, None, Some, length, nat_lt, slice_get, option_map, option_and_then, if◌then◌else◌};
 ghost use Rattle.cdl_source.specs.declared.limits.TheConstants.{MOST_MODELS};
 ghost use Rattle.cdl_tree.specs.Parts.{items_of};
-ghost use Rattle.cdl_scopes.specs.Classes.{Full, declared, parts_of};
+ghost use Rattle.cdl_scopes.specs.Classes.{cut, declared, parts_of};
 ghost use Rattle.cdl_scopes.specs.Lookup.{Entity, meaning};
+ghost use Rattle.cdl_scopes.specs.Table.{Tells};
+ghost use Rattle.cdl_scopes.specs.declared.lookup.Sought.TheVariants as sought;
 ghost use Rattle.cdl_classes.specs.Found.{found_of, value_of};
 ghost use Rattle.cdl_classes.specs.Rules.{broken_10, broken_11};
 ghost use Rattle.cdl_classes.specs.Table.{block_of, item_of};
-ghost use Rattle.cdl_scopes.specs.Classes.{cut};
 ghost use Rattle.cdl_classes.specs.Verdict.{Refuses};
-ghost use Rattle.cdl_scopes.specs.declared.lookup.Sought.TheVariants as sought;
-ghost use Rattle.cdl_scopes.specs.Known.{IsSmall, means};
 
 use crate::duplicates::first_twice;
 use crate::found::{ClassId, Found, ValueFound, cdl_found, modelica_found};
 use crate::free_names::first_taken;
 use crate::table::ClassFault;
-use cdl_scopes::{
-    ClassSort, Classes, Outwards, Sought, Standing, all_outwards, class_at, count_names, first_at,
-    gather_files, in_library, meaning_of, name_at, sort_of, tree_of,
-};
+use cdl_scopes::{ClassSort, DeclaredClasses, Meaning, Sought, sort_of};
 use cdl_source::List;
 use cdl_tree::{ClassTree, FileTree, Name};
 use std::alloc::Global;
@@ -28,15 +24,14 @@ use std::marker::Model;
 /// The declared classes of files, whose names are declared once and free. Contracts see them as the trees of the files.
 #[derive(Drop)]
 pub struct Declarations {
-    files: List<FileTree>,
-    classes: Classes,
-    outwards: Vec<Outwards>,
+    classes: DeclaredClasses,
 }
 
 impl Model for Declarations {
     ghost use Rattle.std.specs.Prelude.{List};
     ghost use Rattle.cdl_tree.specs.declared.class.FileTree.{FileTree as FileTreeOf};
-    ghost use Rattle.cdl_scopes.specs.Kept.{AreKept};
+    ghost use Rattle.cdl_scopes.specs.Classes.{declared};
+    ghost use Rattle.cdl_scopes.specs.Lookup.{IsFree};
     ghost use Rattle.cdl_tree.specs.contracts.class.ClassTree as tree;
     ghost use Rattle.std.specs.Coded.{codes};
 
@@ -44,45 +39,37 @@ impl Model for Declarations {
 
     ghost coded = { Prim.hlevel (codes, tree.the_row.coded) };
 
-    ghost view = { λ t. t.files };
+    ghost view = { λ t. t.classes };
 
-    ghost invariant = { λ t. AreKept t.files t.classes t.outwards.items };
+    ghost invariant = { λ t. IsFree (declared t.classes) };
 }
 
-// What callers see of a class name.
-fn found(standing: Standing<'_>) -> Option<Found>
-    requires { IsSmall standing }
-    ensures { (paths : List Full) (e : Entity) → means paths standing.entry ≡ Some e → result ≡ found_of e }
+// What a class name stands for.
+fn found(meaning: Meaning<'_>) -> Option<Found>
+    ensures { (e : Entity) → Tells meaning.entry e → result ≡ found_of e }
 {
-    match standing {
-        Standing::Class(number) => Some(Found::Class(ClassId {
-            index: number as u32,
-        })),
-        Standing::Package(_) => Some(Found::Package),
-        Standing::Cdl(below) => Some(cdl_found(below)),
-        Standing::Modelica(below) => Some(modelica_found(below)),
-        Standing::Type(kind) => Some(Found::Scalar(kind)),
-        Standing::Constant { .. } | Standing::Literal { .. } => None,
+    match meaning {
+        Meaning::Class(index) => Some(Found::Class(ClassId { index })),
+        Meaning::Package => Some(Found::Package),
+        Meaning::Cdl(below) => Some(cdl_found(below)),
+        Meaning::Modelica(below) => Some(modelica_found(below)),
+        Meaning::Type(value_type) => Some(Found::Scalar(value_type)),
+        Meaning::Constant { .. } | Meaning::Literal { .. } => None,
     }
 }
 
-// What callers see of a value name.
-fn value_found(standing: Standing<'_>) -> Option<ValueFound>
-    requires { IsSmall standing }
-    ensures { (paths : List Full) (e : Entity) → means paths standing.entry ≡ Some e → result ≡ value_of e }
+// What a value name stands for.
+fn value_found(meaning: Meaning<'_>) -> Option<ValueFound>
+    ensures { (e : Entity) → Tells meaning.entry e → result ≡ value_of e }
 {
-    match standing {
-        Standing::Constant { package, item } => Some(ValueFound::Constant {
-            package: ClassId {
-                index: package as u32,
-            },
-            item: item as u32,
+    match meaning {
+        Meaning::Constant { package, item } => Some(ValueFound::Constant {
+            package: ClassId { index: package },
+            item,
         }),
-        Standing::Literal { class, place } => Some(ValueFound::Literal {
-            class: ClassId {
-                index: class as u32,
-            },
-            ordinal: place as u32 + 1,
+        Meaning::Literal { class, ordinal } => Some(ValueFound::Literal {
+            class: ClassId { index: class },
+            ordinal,
         }),
         _ => None,
     }
@@ -107,35 +94,19 @@ impl Declarations {
         ensures ok { IfOk result (λ d. (d ≡ files) × ((broken_10 (declared files) ≡ []) × (broken_11 (declared files) ≡ []))) }
         ensures err { IfErr result (Refuses files) }
     {
-        let classes = match gather_files(alloc, files.items()) {
+        let classes = match DeclaredClasses::of(alloc, files) {
             Ok(classes) => classes,
             Err(_) => return Err(ClassFault::OutOfMemory),
         };
-        match first_twice(alloc, files.items(), &classes) {
+        match first_twice(alloc, &classes) {
             Ok(None) => {}
             Ok(Some(place)) => return Err(ClassFault::Rule { rule: 10, place }),
             Err(_) => return Err(ClassFault::OutOfMemory),
         }
-        let library = match in_library(alloc, files.items(), &classes) {
-            Ok(library) => library,
-            Err(_) => return Err(ClassFault::OutOfMemory),
-        };
-        if let Some(place) = first_taken(files.items(), &classes, library.as_slice()) {
+        if let Some(place) = first_taken(&classes) {
             return Err(ClassFault::Rule { rule: 11, place });
         }
-        match count_names(files.items(), &classes) {
-            Some(_) => {}
-            None => return Err(ClassFault::OutOfMemory),
-        }
-        let outwards = match all_outwards(alloc, files.items(), &classes) {
-            Ok(outwards) => outwards,
-            Err(_) => return Err(ClassFault::OutOfMemory),
-        };
-        Ok(Declarations {
-            files,
-            classes,
-            outwards,
-        })
+        Ok(Declarations { classes })
     }
 
     /// How many classes are declared.
@@ -143,7 +114,7 @@ impl Declarations {
         ensures count { result ≡ length (declared self.now) }
         ensures small { result < 2 ^ 32 }
     {
-        self.classes.list.len()
+        self.classes.len()
     }
 
     /// The declaration of a class.
@@ -151,7 +122,7 @@ impl Declarations {
         requires { class.index < length (declared self.now) }
         ensures { option_map (λ d. d.tree) (slice_get (declared self.now) class.index) ≡ Some result.now }
     {
-        tree_of(self.files.items(), &self.classes.list[class.index as usize])
+        self.classes.tree(class.index)
     }
 
     /// The number of a class's file.
@@ -159,7 +130,7 @@ impl Declarations {
         requires { class.index < length (declared self.now) }
         ensures { option_map (λ d. d.file) (slice_get (declared self.now) class.index) ≡ Some result }
     {
-        self.classes.list[class.index as usize].file
+        self.classes.file(class.index)
     }
 
     /// The number of the first item of this name in a class.
@@ -167,9 +138,8 @@ impl Declarations {
         requires { class.index < length (declared self.now) }
         ensures { result ≡ item_of (declared self.now) class.index name.now }
     {
-        let kept = &self.classes.list[class.index as usize];
-        match kept.members.get(name) {
-            Some(number) => item_number(*number, tree_of(self.files.items(), kept)),
+        match self.classes.member(class.index, name) {
+            Some(number) => item_number(number, self.classes.tree(class.index)),
             None => None,
         }
     }
@@ -178,19 +148,11 @@ impl Declarations {
     pub fn root(&self, name: &str) -> Option<ClassId>
         ensures { result ≡ block_of (declared self.now) (cut name.now) }
     {
-        let Some(full) = name_at(&self.classes, name.as_bytes()) else {
+        let Some(index) = self.classes.first(name) else {
             return None;
         };
-        let Some(number) = first_at(&self.classes, full) else {
-            return None;
-        };
-        let Some(class) = class_at(&self.classes, number) else {
-            return None;
-        };
-        match sort_of(tree_of(self.files.items(), class)) {
-            ClassSort::Block => Some(ClassId {
-                index: number as u32,
-            }),
+        match sort_of(self.classes.tree(index)) {
+            ClassSort::Block => Some(ClassId { index }),
             ClassSort::Package => None,
             ClassSort::Enumeration => None,
         }
@@ -201,15 +163,11 @@ impl Declarations {
         requires { scope.index < length (declared self.now) }
         ensures { result ≡ option_and_then found_of (meaning (declared self.now) sought.Class scope.index (parts_of name.now)) }
     {
-        match meaning_of(
-            self.files.items(),
-            &self.classes,
-            self.outwards.as_slice(),
-            Sought::Class,
-            scope.index as usize,
-            name.parts.items(),
-        ) {
-            Some(standing) => found(standing),
+        match self
+            .classes
+            .meaning(Sought::Class, scope.index, name.parts.items())
+        {
+            Some(meaning) => found(meaning),
             None => None,
         }
     }
@@ -219,15 +177,11 @@ impl Declarations {
         requires { scope.index < length (declared self.now) }
         ensures { result ≡ option_and_then value_of (meaning (declared self.now) sought.Value scope.index (parts_of name.now)) }
     {
-        match meaning_of(
-            self.files.items(),
-            &self.classes,
-            self.outwards.as_slice(),
-            Sought::Value,
-            scope.index as usize,
-            name.parts.items(),
-        ) {
-            Some(standing) => value_found(standing),
+        match self
+            .classes
+            .meaning(Sought::Value, scope.index, name.parts.items())
+        {
+            Some(meaning) => value_found(meaning),
             None => None,
         }
     }

@@ -1,35 +1,45 @@
 // Names that are declared twice, C10.
-ghost use Rattle.std.specs.Prelude.{◌≡◌, ◌++◌, ◌∷◌, [], ℕ, List, Option, Some, None, IfOk, length, map, slice_get, if◌then◌else◌};
+ghost use Rattle.std.specs.Prelude.{◌≡◌, ◌<◌, ◌++◌, ◌∷◌, [], ℕ, List, Option, Some, None, Vec, IfOk, length, map, slice_get, slice_set, unwrap_or, if◌then◌else◌};
 ghost use Rattle.std.specs.List.{list_any, filter};
 ghost use Rattle.std.specs.Str.{bytes_eq};
-ghost use Rattle.cdl_tree.specs.declared.class.FileTree.{FileTree as FileTreeOf};
-ghost use Rattle.cdl_tree.specs.declared.class.ClassTree.{ClassTree as ClassTreeOf};
+ghost use Rattle.std.specs.declared.alloc.Global.{Global as GlobalOf};
+ghost use Rattle.std.specs.BTreeMap.{BTreeMap as BTreeMapOf};
+ghost use Rattle.cdl_source.specs.declared.place.Place.{Place as PlaceOf};
 ghost use Rattle.cdl_scopes.specs.Classes.{Declared, Full, declared, full};
-ghost use Rattle.cdl_scopes.specs.Lookup.{library, first_named};
-ghost use Rattle.cdl_scopes.specs.Gathered.{IsGathered, IsShown, tree_at};
+ghost use Rattle.cdl_scopes.specs.Entries.{entry};
+ghost use Rattle.cdl_scopes.specs.Lookup.{first_named, first_of};
 ghost use Rattle.cdl_classes.specs.inner.Marks.{Marks, mark_from, and_later};
-ghost use Rattle.cdl_scopes.specs.Numbered.{entry};
 ghost use Rattle.cdl_classes.specs.Places as places;
 ghost use Rattle.cdl_classes.specs.Places.{least};
 ghost use Rattle.cdl_classes.specs.Rules as spec;
 
 use crate::free_names::place_of;
 use crate::places::{latest, sooner, soonest};
-use cdl_scopes::{Class, ClassSort, Classes, index_name, sort_of, tree_of};
+use cdl_scopes::{ClassSort, DeclaredClasses, Scope, index_name, sort_of};
 use cdl_source::{OutOfMemory, Place};
-use cdl_tree::{FileTree, Ident, Item};
+use cdl_tree::{Ident, Item};
 use std::alloc::Global;
 use std::collections::BTreeMap;
 
-// A map for each scope, all empty.
-fn no_marks(alloc: Global, count: usize) -> Result<Vec<BTreeMap<Vec<u8>, Place>>, OutOfMemory>
-    ensures { IfOk result (λ maps. (paths : List Full) → count ≡ length paths → ((n m : ℕ) (q : Full) → slice_get paths n ≡ Some q → slice_get paths m ≡ Some q → n ≡ m) → Marks maps.items paths []) }
+// The first place so far of each declared full name: of one that a class has, by the number of the first class that has it; of any
+// other constant, by the number of the first class that has its package's name, and its own name.
+#[derive(Drop)]
+struct FirstPlaces {
+    classes: Vec<Option<Place>>,
+    constants: Vec<BTreeMap<Vec<u8>, Place>>,
+}
+
+// No places, for so many classes.
+fn no_places(alloc: Global, count: usize) -> Result<FirstPlaces, OutOfMemory>
+    ensures { IfOk result (λ p. (ds : List Declared) → count ≡ length ds → Marks ds p.classes.items p.constants.items []) }
 {
-    let mut maps = Vec::new(alloc);
+    let mut classes = Vec::new(alloc);
+    let mut constants = Vec::new(alloc);
     for _ in 0..count {
-        maps.push(BTreeMap::new(alloc))?;
+        classes.push(None)?;
+        constants.push(BTreeMap::new(alloc))?;
     }
-    Ok(maps)
+    Ok(FirstPlaces { classes, constants })
 }
 
 // The first of a place that may be known and this one.
@@ -52,42 +62,81 @@ fn with_later(first: Option<Place>, known: Option<Place>, place: Place) -> Optio
     }
 }
 
-// Notes the place of a full name.
-fn note(
+// The first place of the name of this class, where one is known.
+fn place_at(classes: &[Option<Place>], index: usize) -> Option<Place>
+    ensures { result ≡ unwrap_or (slice_get classes.now index) None }
+{
+    match classes.get(index) {
+        Some(known) => *known,
+        None => None,
+    }
+}
+
+// Takes this as the first place of the name of this class.
+fn set_place(classes: &mut Vec<Option<Place>>, index: usize, place: Place)
+    requires { index < length classes.old.items }
+    ensures { classes.new.items ≡ slice_set classes.old.items index (Some place) }
+{
+    classes[index] = Some(place);
+}
+
+// Notes the place of a full name that this class is the first to have, and gives the first place before.
+fn note_class(classes: &mut Vec<Option<Place>>, class: u32, place: Place) -> Option<Place>
+    ensures { (ds : List Declared) (constants : List (BTreeMapOf (Vec ℕ GlobalOf) PlaceOf)) (ns : List spec.Named) (q : Full) → Marks ds classes.old.items constants ns → first_of q ds ≡ Some class
+        → Marks ds classes.new.items constants (ns ++ (record { full = q; at = place }) ∷ []) × (result ≡ mark_from q None ns) }
+{
+    let index = class as usize;
+    if index >= classes.len() {
+        return None;
+    }
+    let known = place_at(classes.as_slice(), index);
+    set_place(classes, index, first_with(known, place));
+    known
+}
+
+// Notes the place of a constant whose full name no class has, and gives the first place before. This class is the first to have the
+// name of its package.
+fn note_constant(
     alloc: Global,
-    maps: &mut Vec<BTreeMap<Vec<u8>, Place>>,
-    scope: usize,
+    constants: &mut Vec<BTreeMap<Vec<u8>, Place>>,
+    owner: u32,
     part: &[u8],
     place: Place,
 ) -> Result<Option<Place>, OutOfMemory>
-    ensures { IfOk result (λ known. (paths : List Full) (ns : List spec.Named) (q : Full) → Marks maps.old.items paths ns → slice_get paths scope ≡ Some q
-        → Marks maps.new.items paths (ns ++ (record { full = q ++ part.now ∷ []; at = place }) ∷ []) × (known ≡ mark_from (q ++ part.now ∷ []) None ns)) }
+    ensures { IfOk result (λ known. (ds : List Declared) (classes : List (Option PlaceOf)) (ns : List spec.Named) (q : Full) → Marks ds classes constants.old.items ns
+        → first_of q ds ≡ Some owner → first_of (q ++ part.now ∷ []) ds ≡ None
+        → Marks ds classes constants.new.items (ns ++ (record { full = q ++ part.now ∷ []; at = place }) ∷ []) × (known ≡ mark_from (q ++ part.now ∷ []) None ns)) }
 {
-    if scope >= maps.len() {
+    let index = owner as usize;
+    if index >= constants.len() {
         return Ok(None);
     }
-    let map = &mut maps[scope];
+    let map = &mut constants[index];
     let known = map.get(part).copied();
     let key = Vec::from_slice(alloc, part)?;
     map.insert(key, first_with(known, place))?;
     Ok(known)
 }
 
-// Notes the place of a full name, and gives the first place so far of a name that was there.
-fn mark(
+// Notes the place of a constant of this package, and gives the first place of its full name before.
+fn note_name(
     alloc: Global,
-    maps: &mut Vec<BTreeMap<Vec<u8>, Place>>,
-    scope: usize,
+    classes: &DeclaredClasses,
+    places: &mut FirstPlaces,
+    class: u32,
+    owner: u32,
     part: &[u8],
     place: Place,
-    first: Option<Place>,
 ) -> Result<Option<Place>, OutOfMemory>
-    ensures { IfOk result (λ r. (paths : List Full) (ns : List spec.Named) (q : Full) → Marks maps.old.items paths ns → slice_get paths scope ≡ Some q
-        → Marks maps.new.items paths (ns ++ (record { full = q ++ part.now ∷ []; at = place }) ∷ [])
-        × (r ≡ least first (map (spec.later_of place) (filter (spec.with_name (q ++ part.now ∷ [])) ns)))) }
+    ensures { IfOk result (λ known. (ns : List spec.Named) (d : Declared) → Marks (declared classes.now) places.old.classes.items places.old.constants.items ns
+        → slice_get (declared classes.now) class ≡ Some d → first_of (full d) (declared classes.now) ≡ Some owner
+        → Marks (declared classes.now) places.new.classes.items places.new.constants.items (ns ++ (record { full = full d ++ part.now ∷ []; at = place }) ∷ [])
+        × (known ≡ mark_from (full d ++ part.now ∷ []) None ns)) }
 {
-    let known = note(alloc, maps, scope, part, place)?;
-    Ok(with_later(first, known, place))
+    match classes.first_within(Scope::Of(class), part) {
+        Some(first) => Ok(note_class(&mut places.classes, first, place)),
+        None => note_constant(alloc, &mut places.constants, owner, part, place),
+    }
 }
 
 // Whether an earlier one of these names is the same: the first place so far, and this one then.
@@ -149,25 +198,31 @@ fn again_literals(
 // The first place so far, and those of the constants of a package.
 fn mark_constants(
     alloc: Global,
-    maps: &mut Vec<BTreeMap<Vec<u8>, Place>>,
-    scope: usize,
+    classes: &DeclaredClasses,
+    places: &mut FirstPlaces,
+    class: u32,
+    owner: u32,
     file: u32,
     items: &[Item],
     first: Option<Place>,
 ) -> Result<Option<Place>, OutOfMemory>
-    ensures { IfOk result (λ r. (paths : List Full) (ns : List spec.Named) (d : Declared) → Marks maps.old.items paths ns → slice_get paths scope ≡ Some (full d) → file ≡ d.file
-        → Marks maps.new.items paths (ns ++ map (spec.constant_named d) items.now) × (r ≡ least first (spec.twice_from ns (map (spec.constant_named d) items.now)))) }
+    ensures { IfOk result (λ r. (ns : List spec.Named) (d : Declared) → Marks (declared classes.now) places.old.classes.items places.old.constants.items ns
+        → slice_get (declared classes.now) class ≡ Some d → first_of (full d) (declared classes.now) ≡ Some owner → file ≡ d.file
+        → Marks (declared classes.now) places.new.classes.items places.new.constants.items (ns ++ map (spec.constant_named d) items.now) × (r ≡ least first (spec.twice_from ns (map (spec.constant_named d) items.now)))) }
 {
     let mut first = first;
     for item in items {
-        first = mark(
+        let place = place_of(file, &item.name);
+        let known = note_name(
             alloc,
-            maps,
-            scope,
+            classes,
+            places,
+            class,
+            owner,
             item.name.text.bytes(),
-            place_of(file, &item.name),
-            first,
+            place,
         )?;
+        first = with_later(first, known, place);
     }
     Ok(first)
 }
@@ -175,31 +230,33 @@ fn mark_constants(
 // The first place so far, and those of the full names in a class.
 fn mark_class(
     alloc: Global,
-    maps: &mut Vec<BTreeMap<Vec<u8>, Place>>,
-    files: &[FileTree],
-    class: &Class,
+    classes: &DeclaredClasses,
+    places: &mut FirstPlaces,
+    class: u32,
     first: Option<Place>,
 ) -> Result<Option<Place>, OutOfMemory>
-    requires { (c : ClassTreeOf) × (tree_at files.now class.now.file class.now.top class.now.steps.items ≡ Some c) }
-    ensures { IfOk result (λ r. (paths : List Full) (ns : List spec.Named) (d : Declared) → Marks maps.old.items paths ns → IsShown paths files.now class.now d
-        → Marks maps.new.items paths (ns ++ spec.named_in d) × (r ≡ least first (spec.twice_from ns (spec.named_in d)))) }
+    requires { class < length (declared classes.now) }
+    ensures { IfOk result (λ r. (ns : List spec.Named) (d : Declared) → Marks (declared classes.now) places.old.classes.items places.old.constants.items ns
+        → slice_get (declared classes.now) class ≡ Some d
+        → Marks (declared classes.now) places.new.classes.items places.new.constants.items (ns ++ spec.named_in d) × (r ≡ least first (spec.twice_from ns (spec.named_in d)))) }
 {
-    let tree = tree_of(files, class);
+    let tree = classes.tree(class);
+    let file = classes.file(class);
     let name = tree.name();
-    let first = mark(
-        alloc,
-        maps,
-        class.outer,
-        name.text.bytes(),
-        place_of(class.file, name),
-        first,
-    )?;
+    let Some(owner) = classes.first_within(Scope::Around(class), name.text.bytes()) else {
+        return Ok(first);
+    };
+    let place = place_of(file, name);
+    let known = note_class(&mut places.classes, owner, place);
+    let first = with_later(first, known, place);
     match sort_of(tree) {
         ClassSort::Package => mark_constants(
             alloc,
-            maps,
-            class.name,
-            class.file,
+            classes,
+            places,
+            class,
+            owner,
+            file,
             tree.items(),
             first,
         ),
@@ -211,50 +268,41 @@ fn mark_class(
 // The first place so far, and those of the items of a block or the literals of an enumeration.
 fn again_class(
     alloc: Global,
-    files: &[FileTree],
-    class: &Class,
+    classes: &DeclaredClasses,
+    class: u32,
     first: Option<Place>,
 ) -> Result<Option<Place>, OutOfMemory>
-    requires { (c : ClassTreeOf) × (tree_at files.now class.now.file class.now.top class.now.steps.items ≡ Some c) }
-    ensures { IfOk result (λ r. (paths : List Full) (d : Declared) → IsShown paths files.now class.now d → r ≡ least first (spec.again_in d)) }
+    requires { class < length (declared classes.now) }
+    ensures { IfOk result (λ r. (d : Declared) → slice_get (declared classes.now) class ≡ Some d → r ≡ least first (spec.again_in d)) }
 {
-    let tree = tree_of(files, class);
+    let tree = classes.tree(class);
+    let file = classes.file(class);
     match sort_of(tree) {
-        ClassSort::Block => again_items(alloc, class.file, tree.items(), first),
-        ClassSort::Enumeration => again_literals(alloc, class.file, tree.literals(), first),
+        ClassSort::Block => again_items(alloc, file, tree.items(), first),
+        ClassSort::Enumeration => again_literals(alloc, file, tree.literals(), first),
         ClassSort::Package => Ok(first),
     }
 }
 
 // The first place of a full name that is declared twice.
-fn first_full(
-    alloc: Global,
-    files: &[FileTree],
-    all: &Classes,
-) -> Result<Option<Place>, OutOfMemory>
-    requires { IsGathered files.now all.now library (declared files.now) }
-    ensures { IfOk result (λ r. r ≡ least None (spec.twice_from [] (spec.named_of (declared files.now)))) }
+fn first_full(alloc: Global, classes: &DeclaredClasses) -> Result<Option<Place>, OutOfMemory>
+    ensures { IfOk result (λ r. r ≡ least None (spec.twice_from [] (spec.named_of (declared classes.now)))) }
 {
-    let mut maps = no_marks(alloc, all.nodes.len())?;
+    let mut places = no_places(alloc, classes.len())?;
     let mut first = None;
-    for class in &all.list {
-        first = mark_class(alloc, &mut maps, files, class, first)?;
+    for class in 0..classes.len() as u32 {
+        first = mark_class(alloc, classes, &mut places, class, first)?;
     }
     Ok(first)
 }
 
 // The first place of a name that is declared twice.
-pub fn first_twice(
-    alloc: Global,
-    files: &[FileTree],
-    all: &Classes,
-) -> Result<Option<Place>, OutOfMemory>
-    requires { IsGathered files.now all.now library (declared files.now) }
-    ensures { IfOk result (λ r. r ≡ least None (spec.broken_10 (declared files.now))) }
+pub fn first_twice(alloc: Global, classes: &DeclaredClasses) -> Result<Option<Place>, OutOfMemory>
+    ensures { IfOk result (λ r. r ≡ least None (spec.broken_10 (declared classes.now))) }
 {
-    let mut first = first_full(alloc, files, all)?;
-    for class in &all.list {
-        first = again_class(alloc, files, class, first)?;
+    let mut first = first_full(alloc, classes)?;
+    for class in 0..classes.len() as u32 {
+        first = again_class(alloc, classes, class, first)?;
     }
     Ok(first)
 }

@@ -15,8 +15,9 @@ use Rattle.cdl_scopes.specs.declared.gather.Class.{Class}
 use Rattle.cdl_scopes.specs.declared.gather.Classes.{Classes}
 use Rattle.cdl_scopes.specs.Classes.{Full, Declared, full, same_full, name_of}
 use Rattle.cdl_scopes.specs.Lookup.{first_from, first_of, first_named, member_names, cdl_name, modelica_name}
-use Rattle.cdl_scopes.specs.Numbered.{Names, Covers, Keeps, Grown, entry}
-use Rattle.cdl_scopes.specs.Gathered.{IsShown, IsGathered, AfterAt, tree_at}
+use Rattle.cdl_scopes.specs.Entries.{entry}
+use Rattle.cdl_scopes.specs.inner.Numbered.{Names, Covers, Keeps, Grown}
+use Rattle.cdl_scopes.specs.inner.Gathered.{IsShown, IsGathered, AfterAt, tree_at}
 use Rattle.cdl_scopes.proofs.Lists.{get_at, cases_option, zip_length, zip_push}
 use Rattle.cdl_scopes.proofs.Fronts.{same_is, same_self}
 use Rattle.cdl_scopes.proofs.Firsts.{first_of-push}

@@ -7,7 +7,7 @@ use Rattle.std.proofs.lemmas.List.{drop_more, take_more, get_or-drop}
 use Rattle.cdl_tree.specs.declared.class.FileTree.{FileTree}
 use Rattle.cdl_scopes.specs.declared.gather.Classes.{Classes}
 use Rattle.cdl_scopes.specs.Classes.{Full, declared, full, is_front}
-use Rattle.cdl_scopes.specs.Gathered.{IsGathered}
+use Rattle.cdl_scopes.specs.inner.Gathered.{IsGathered}
 use Rattle.cdl_scopes.specs.Lookup.{library}
 use Rattle.cdl_scopes.specs.Classes.{cut, add_first}
 use Rattle.cdl_scopes.proofs.Fronts.{front_append, any_trans}

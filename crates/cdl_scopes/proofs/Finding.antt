@@ -15,7 +15,7 @@ use Rattle.cdl_scopes.specs.declared.lookup.Sought.TheVariants.{Class as ClassNa
 use Rattle.cdl_scopes.specs.declared.lookup.Standing.{Standing}
 use Rattle.cdl_scopes.specs.Classes.{Full, Declared, declared, full, same_full, is_front, text_of}
 use Rattle.cdl_scopes.specs.Lookup.{Entity, a_class, a_package, in_cdl, in_modelica, first_from, cdl_name, modelica_name, in_library, IsFree, stands, inside, type_at, has, seek, enters, leads}
-use Rattle.cdl_scopes.specs.Known.{Known, Finds, IsOwn}
+use Rattle.cdl_scopes.specs.inner.Known.{Known, Finds, IsOwn}
 use Rattle.cdl_scopes.proofs.Lists.{cases_option}
 use Rattle.cdl_scopes.proofs.Walk.{take_whole}
 use Rattle.cdl_scopes.proofs.Fronts.{same_is, bytes_same}

@@ -4,7 +4,7 @@ use Rattle.std.proofs.Common.{◌≡◌, ℕ, true, List, [], ◌∷◌, ◌++�
 use Rattle.std.specs.List.{slice_get, list_any}
 use Rattle.cdl_scopes.specs.declared.names.Node.{Node}
 use Rattle.cdl_scopes.specs.Classes.{Full, is_front}
-use Rattle.cdl_scopes.specs.Numbered.{Numbers, Names, Grown, child}
+use Rattle.cdl_scopes.specs.inner.Numbered.{Numbers, Names, Grown, child}
 use Rattle.cdl_scopes.proofs.Lists.{get_left, get_last, get_pushed}
 use Rattle.cdl_scopes.proofs.Fronts.{front_self, front_push, any_trans, any_left, any_right, any_split, any_one}
 

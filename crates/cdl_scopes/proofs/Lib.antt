@@ -11,9 +11,10 @@ pub mod Walk
 pub mod Within
 pub mod StandingLaws
 pub mod Finding
-pub mod Meaning
+pub mod Meanings
 pub mod Kept
 pub mod Needs
 pub mod Passing
 pub mod FirstScope
 pub mod Listing
+pub mod InScope

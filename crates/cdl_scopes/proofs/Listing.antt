@@ -7,7 +7,7 @@ use Rattle.cdl_scopes.specs.declared.gather.Class.{Class}
 use Rattle.cdl_scopes.specs.declared.gather.Classes.{Classes}
 use Rattle.cdl_scopes.specs.Classes.{Declared, declared}
 use Rattle.cdl_scopes.specs.Lookup.{library}
-use Rattle.cdl_scopes.specs.Gathered.{IsGathered, IsShown}
+use Rattle.cdl_scopes.specs.inner.Gathered.{IsGathered, IsShown}
 use Rattle.cdl_scopes.proofs.Lists.{zip_at}
 
 pub listed_at : (files : List FileTree) (all : Classes) (h : IsGathered files all library (declared files)) (items : List Class) (i : ℕ) (class : Class) → items ≡ all.list.items → i < length items → class ≡ get_or items i class

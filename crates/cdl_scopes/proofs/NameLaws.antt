@@ -12,7 +12,7 @@ use Rattle.std.proofs.lemmas.Option.{slice_get_within, same_Some}
 use Rattle.std.proofs.lemmas.Slice.Eq.{bytes_eq-Decides}
 use Rattle.cdl_scopes.specs.declared.names.Node.{Node}
 use Rattle.cdl_scopes.specs.Classes.{Full}
-use Rattle.cdl_scopes.specs.Numbered.{Numbers, Inside, child}
+use Rattle.cdl_scopes.specs.inner.Numbered.{Numbers, Inside, child}
 use Rattle.cdl_scopes.proofs.Entries.{order, at, lookup-insert}
 use Rattle.cdl_scopes.proofs.Lists.{get_left, get_last, get_pushed, get_written, get_at}
 

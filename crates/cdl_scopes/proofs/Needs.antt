@@ -12,8 +12,8 @@ use Rattle.cdl_scopes.specs.declared.names.Node.{Node}
 use Rattle.cdl_scopes.specs.declared.gather.Classes.{Classes}
 use Rattle.cdl_scopes.specs.Classes.{Full, declared, full, is_front, same_full}
 use Rattle.cdl_scopes.specs.Lookup.{library, cdl_name, modelica_name, in_library}
-use Rattle.cdl_scopes.specs.Numbered.{child}
-use Rattle.cdl_scopes.specs.Gathered.{IsGathered}
+use Rattle.cdl_scopes.specs.inner.Numbered.{child}
+use Rattle.cdl_scopes.specs.inner.Gathered.{IsGathered}
 use Rattle.cdl_scopes.specs.Lookup.{is_around, is_needed}
 use Rattle.cdl_scopes.proofs.Lists.{get_at}
 use Rattle.std.specs.Prelude.{IsTrue, unwrap_or}

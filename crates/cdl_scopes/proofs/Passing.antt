@@ -19,9 +19,9 @@ use Rattle.cdl_scopes.specs.declared.lookup.Sought.{Sought}
 use Rattle.cdl_scopes.specs.declared.lookup.Sought.TheVariants.{Class as ClassNames, Value}
 use Rattle.cdl_scopes.specs.Classes.{Full, Declared, declared, is_front}
 use Rattle.cdl_scopes.specs.Lookup.{library, cdl_name, modelica_name, in_library, type_at, constant_at, inside, has, seek}
-use Rattle.cdl_scopes.specs.Numbered.{child}
-use Rattle.cdl_scopes.specs.Gathered.{IsGathered}
-use Rattle.cdl_scopes.specs.Outwards.{SoughtAt, Passes, next_for}
+use Rattle.cdl_scopes.specs.inner.Numbered.{child}
+use Rattle.cdl_scopes.specs.inner.Gathered.{IsGathered}
+use Rattle.cdl_scopes.specs.inner.Outwards.{SoughtAt, Passes, next_for}
 use Rattle.cdl_scopes.specs.declared.scopes.Outwards.{Outwards}
 use Rattle.cdl_scopes.proofs.Entries.{at}
 use Rattle.cdl_scopes.proofs.Lists.{get_at, get_left, get_last, get_pushed}

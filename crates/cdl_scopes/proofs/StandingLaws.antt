@@ -17,9 +17,10 @@ use Rattle.cdl_scopes.specs.declared.lookup.ClassSort.TheVariants as sort
 use Rattle.cdl_scopes.specs.declared.lookup.Sought.{Sought}
 use Rattle.cdl_scopes.specs.declared.lookup.Sought.TheVariants.{Class as ClassNames, Value}
 use Rattle.cdl_scopes.specs.Lookup.{first_of, cdl_name, modelica_name, library, in_library, IsFree, exists, stands, inside, a_class, sort_of, constant_at, constant_in, class_enters, enters}
-use Rattle.cdl_scopes.specs.Numbered.{child, entry}
-use Rattle.cdl_scopes.specs.Gathered.{IsShown, IsGathered, descend, tree_at}
-use Rattle.cdl_scopes.specs.Known.{Known}
+use Rattle.cdl_scopes.specs.Entries.{entry}
+use Rattle.cdl_scopes.specs.inner.Numbered.{child}
+use Rattle.cdl_scopes.specs.inner.Gathered.{IsShown, IsGathered, descend, tree_at}
+use Rattle.cdl_scopes.specs.inner.Known.{Known}
 use Rattle.cdl_scopes.proofs.Lists.{cases_option, zip_at, zip_none}
 use Rattle.cdl_scopes.proofs.Fronts.{same_is}
 use Rattle.cdl_scopes.proofs.Adding.{named}

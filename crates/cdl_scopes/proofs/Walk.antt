@@ -8,7 +8,7 @@ use Rattle.cdl_tree.specs.declared.class.FileTree.{FileTree}
 use Rattle.cdl_tree.specs.Parts.{classes_of}
 use Rattle.cdl_scopes.specs.declared.gather.Classes.{Classes}
 use Rattle.cdl_scopes.specs.Classes.{Full, Declared, declared_in, declared_all, name_of}
-use Rattle.cdl_scopes.specs.Gathered.{IsGathered, After, AfterAt, descend, tree_at}
+use Rattle.cdl_scopes.specs.inner.Gathered.{IsGathered, After, AfterAt, descend, tree_at}
 use Rattle.cdl_scopes.proofs.Listed.{declared_all-push, declared_in-is}
 
 pub then_some : {A B : Type 0} (f : A → Option B) (o : Option A) (y : B) → option_and_then f o ≡ Some y → (x : A) × (o ≡ Some x) × (f x ≡ Some y)

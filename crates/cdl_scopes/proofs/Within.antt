@@ -14,8 +14,8 @@ use Rattle.cdl_scopes.specs.declared.gather.Classes.{Classes}
 use Rattle.cdl_scopes.specs.Classes.{Full, Declared, full, is_front, declared, declared_from, declared_in, declared_all, name_of, within_of}
 use Rattle.cdl_scopes.specs.Lookup.{library, cdl_name, modelica_name}
 use Rattle.cdl_scopes.specs.declared.gather.Class.{Class}
-use Rattle.cdl_scopes.specs.Numbered.{Numbers, Names, Covers, Keeps, Grown, WithinAdded}
-use Rattle.cdl_scopes.specs.Gathered.{IsShown, IsGathered, After, FileSoFar, tree_at}
+use Rattle.cdl_scopes.specs.inner.Numbered.{Numbers, Names, Covers, Keeps, Grown, WithinAdded}
+use Rattle.cdl_scopes.specs.inner.Gathered.{IsShown, IsGathered, After, FileSoFar, tree_at}
 use Rattle.cdl_scopes.proofs.Fronts.{front_self, front_trans, front_append, any_trans, any_left, any_right, any_split}
 use Rattle.cdl_scopes.proofs.Adding.{first_kept, still_shown, grown_to}
 use Rattle.cdl_scopes.proofs.Listed.{declared_in-is, declared_all-push}

@@ -1,8 +1,6 @@
 pub mod Classes
 pub mod Lookup
 pub mod Scopes
-pub mod Numbered
-pub mod Gathered
-pub mod Known
-pub mod Outwards
-pub mod Kept
+pub mod Entries
+pub mod Table
+pub mod inner

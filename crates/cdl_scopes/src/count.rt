@@ -3,8 +3,8 @@ ghost use Rattle.std.specs.Prelude.{◌≡◌, ◌<◌, ◌+◌, ◌^◌, List, 
 ghost use Rattle.cdl_tree.specs.declared.class.ClassTree.{ClassTree as ClassTreeOf};
 ghost use Rattle.cdl_scopes.specs.Classes.{Full, Declared, declared};
 ghost use Rattle.cdl_scopes.specs.Lookup.{library};
-ghost use Rattle.cdl_scopes.specs.Gathered.{IsGathered, IsShown, tree_at};
-ghost use Rattle.cdl_scopes.specs.Kept.{name_count, names_in};
+ghost use Rattle.cdl_scopes.specs.inner.Gathered.{IsGathered, IsShown, tree_at};
+ghost use Rattle.cdl_scopes.specs.inner.Kept.{name_count, names_in};
 
 use crate::gather::{Class, Classes};
 use crate::lookup::tree_of;

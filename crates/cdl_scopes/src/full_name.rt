@@ -3,15 +3,15 @@ ghost use Rattle.std.specs.Prelude.{◌≡◌, ◌++◌, ◌∷◌, [], ℕ, Lis
 ghost use Rattle.cdl_tree.specs.declared.class.FileTree.{FileTree as FileTreeOf};
 ghost use Rattle.cdl_scopes.specs.Classes.{Full, declared};
 ghost use Rattle.cdl_scopes.specs.Lookup.{library};
-ghost use Rattle.cdl_scopes.specs.Gathered.{IsGathered};
+ghost use Rattle.cdl_scopes.specs.inner.Gathered.{IsGathered};
 ghost use Rattle.cdl_scopes.specs.Classes.{cut};
 
 use crate::gather::Classes;
 use crate::lookup::node_at;
 use crate::names::TOP;
 
-// The number of the name of this identifier in a scope.
-fn name_in(all: &Classes, scope: usize, part: &[u8]) -> Option<usize>
+/// The number of the name of this identifier in a scope.
+pub fn name_in(all: &Classes, scope: usize, part: &[u8]) -> Option<usize>
     ensures some { IfSome result (λ n. (files : List FileTreeOf) (h : IsGathered files all.now library (declared files)) (q : Full) → slice_get h.names.paths scope ≡ Some q
         → slice_get h.names.paths n ≡ Some (q ++ part.now ∷ [])) }
     ensures none { IfNone result ((files : List FileTreeOf) (h : IsGathered files all.now library (declared files)) (q : Full) → slice_get h.names.paths scope ≡ Some q

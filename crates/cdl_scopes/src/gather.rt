@@ -8,7 +8,7 @@ ghost use Rattle.cdl_tree.specs.declared.class.ClassTree.{ClassTree as ClassTree
 ghost use Rattle.cdl_tree.specs.Parts.{classes_of};
 ghost use Rattle.cdl_scopes.specs.Classes.{Declared, Full, full, declared, declared_in, declared_all, name_of, within_of};
 ghost use Rattle.cdl_scopes.specs.Lookup.{library};
-ghost use Rattle.cdl_scopes.specs.Gathered.{After, AfterAt, IsGathered, tree_at};
+ghost use Rattle.cdl_scopes.specs.inner.Gathered.{After, AfterAt, IsGathered, tree_at};
 
 use crate::members::members;
 use crate::names::{Node, TOP, no_names, number_name, number_within};

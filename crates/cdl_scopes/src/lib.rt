@@ -4,20 +4,16 @@
 mod count;
 mod full_name;
 mod gather;
+mod in_scope;
 mod law;
 mod lookup;
 mod members;
 mod names;
 mod scopes;
+mod table;
 
-pub use count::count_names;
-pub use full_name::name_at;
-pub use gather::{Class, Classes, gather_files};
+pub use in_scope::Scope;
 pub use law::first_scope_counts;
-pub use lookup::{
-    ClassSort, Sought, Standing, class_at, first_at, meaning_of, node_at, scalar_named, sort_of,
-    tree_of,
-};
+pub use lookup::{ClassSort, Sought, scalar_named, sort_of};
 pub use members::index_name;
-pub use names::Node;
-pub use scopes::{Outwards, all_outwards, in_library, is_marked};
+pub use table::{DeclaredClasses, Meaning};

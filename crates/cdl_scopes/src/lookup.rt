@@ -6,12 +6,12 @@ ghost use Rattle.cdl_tree.specs.declared.class.ClassTree.{ClassTree as ClassTree
 ghost use Rattle.cdl_tree.specs.declared.class.FileTree.{FileTree as FileTreeOf};
 ghost use Rattle.cdl_tree.specs.Parts.{classes_of};
 ghost use Rattle.cdl_scopes.specs.Classes.{Full, Declared, declared, same_full, text_of};
-ghost use Rattle.cdl_scopes.specs.Gathered.{tree_at};
-ghost use Rattle.cdl_scopes.specs.Known.{Known, Finds, Scoped, IsOver, IsOwn, means};
+ghost use Rattle.cdl_scopes.specs.inner.Gathered.{tree_at};
+ghost use Rattle.cdl_scopes.specs.inner.Known.{Known, Finds, Scoped, IsOver, IsOwn, means};
 ghost use Rattle.cdl_scopes.specs.Lookup as spec;
 ghost use Rattle.cdl_scopes.specs.declared.lookup.Sought.{Sought};
-ghost use Rattle.cdl_scopes.specs.Numbered.{entry};
-ghost use Rattle.cdl_scopes.specs.Outwards.{AreOutwards};
+ghost use Rattle.cdl_scopes.specs.Entries.{entry};
+ghost use Rattle.cdl_scopes.specs.inner.Outwards.{AreOutwards};
 ghost use Rattle.cdl_scopes.specs.declared.lookup.ClassSort.TheVariants as sort;
 
 use crate::gather::{Class, Classes};

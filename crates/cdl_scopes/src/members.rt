@@ -2,7 +2,7 @@
 ghost use Rattle.std.specs.Prelude.{◌≡◌, ◌++◌, ◌∷◌, [], ◌+◌, ◌≤◌, ◌<◌, List, ℕ, IfOk, OnOk, cond, length, map};
 ghost use Rattle.std.specs.Str.{bytes_eq};
 ghost use Rattle.cdl_scopes.specs.Lookup.{first_named, item_name, member_names};
-ghost use Rattle.cdl_scopes.specs.Numbered.{entry};
+ghost use Rattle.cdl_scopes.specs.Entries.{entry};
 
 use cdl_tree::{ClassTree, Ident, Item};
 use std::alloc::{AllocError, Global};

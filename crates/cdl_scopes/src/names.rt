@@ -1,7 +1,7 @@
 // Full names, numbered from 0, the top, in the order in which they come up.
 ghost use Rattle.std.specs.Prelude.{◌≡◌, ◌++◌, ◌∷◌, ◌<◌, [], List, ℕ, Some, OnOk, IfOk, length, map, slice_get};
 ghost use Rattle.cdl_scopes.specs.Classes.{Full, text_of, within_of};
-ghost use Rattle.cdl_scopes.specs.Numbered.{Numbers, Names, Grown, WithinAdded, child};
+ghost use Rattle.cdl_scopes.specs.inner.Numbered.{Numbers, Names, Grown, WithinAdded, child};
 
 use cdl_tree::{Ident, Name};
 use std::alloc::{AllocError, Global};

@@ -7,9 +7,10 @@ ghost use Rattle.cdl_tree.specs.declared.class.FileTree.{FileTree as FileTreeOf}
 ghost use Rattle.cdl_scopes.specs.Classes.{Full, declared};
 ghost use Rattle.cdl_scopes.specs.Lookup as spec;
 ghost use Rattle.cdl_scopes.specs.declared.lookup.Sought.{Sought as SoughtOf};
-ghost use Rattle.cdl_scopes.specs.Gathered.{IsGathered};
-ghost use Rattle.cdl_scopes.specs.Numbered.{child, entry};
-ghost use Rattle.cdl_scopes.specs.Outwards.{AreInLibrary, AreOutwards, Passes, next_for};
+ghost use Rattle.cdl_scopes.specs.inner.Gathered.{IsGathered};
+ghost use Rattle.cdl_scopes.specs.Entries.{entry};
+ghost use Rattle.cdl_scopes.specs.inner.Numbered.{child};
+ghost use Rattle.cdl_scopes.specs.inner.Outwards.{AreInLibrary, AreOutwards, Passes, next_for};
 
 use crate::gather::Classes;
 use crate::lookup::{first_at, node_at};

@@ -1,7 +1,7 @@
 use Rattle.std.proofs.Common.{◌∙◌, ◌∷◌, ◌++◌, [], ℕ, List, Bool, is_some, sym, ap}
 use Rattle.std.specs.Prelude.{if◌then◌else◌}
 use Rattle.cdl_scopes.specs.Lookup.{first_named}
-use Rattle.cdl_scopes.specs.Numbered.{entry}
+use Rattle.cdl_scopes.specs.Entries.{entry}
 use Rattle.cdl_classes.specs.Places.{least, sooner}
 use Rattle.cdl_classes.specs.Rules.{place}
 use Rattle.cdl_classes.proofs.MarkLaws.{seen_before}

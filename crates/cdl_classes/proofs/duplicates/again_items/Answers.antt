@@ -4,7 +4,7 @@ use Rattle.std.specs.List.{slice_get}
 use Rattle.std.proofs.lemmas.List.{length-map, length-take-le}
 use Rattle.std.proofs.lemmas.Option.{slice_get_read, slice_get-map}
 use Rattle.cdl_scopes.specs.Classes.{text_of}
-use Rattle.cdl_scopes.specs.Numbered.{entry}
+use Rattle.cdl_scopes.specs.Entries.{entry}
 use Rattle.cdl_classes.specs.Rules.{name_ident}
 use Rattle.cdl_classes.proofs.MarkLaws.{next_again}
 use Rattle.cdl_classes.proofs.duplicates.again_items.Goals as goal

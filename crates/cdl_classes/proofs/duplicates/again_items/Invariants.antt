@@ -1,7 +1,7 @@
 use Rattle.std.proofs.Common.{◌≡◌, ℕ, List, [], map, take, drop}
 use Rattle.cdl_scopes.specs.Classes.{text_of}
 use Rattle.cdl_scopes.specs.Lookup.{first_named}
-use Rattle.cdl_scopes.specs.Numbered.{entry}
+use Rattle.cdl_scopes.specs.Entries.{entry}
 use Rattle.cdl_classes.specs.Places.{least}
 use Rattle.cdl_classes.specs.Rules.{again_from, name_ident}
 use Rattle.cdl_classes.proofs.duplicates.again_items.Given as goal

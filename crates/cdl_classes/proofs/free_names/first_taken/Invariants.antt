@@ -5,5 +5,4 @@ use Rattle.cdl_classes.specs.Rules.{taken_of, broken_11}
 use Rattle.cdl_classes.proofs.free_names.first_taken.Given as goal
 
 abbrev pub invariant-loop-class : goal.invariant-loop-class
-invariant-loop-class l =
-    least l.first (taken_of (declared l.files) (drop l.class-index (declared l.files))) ≡ least None (broken_11 (declared l.files))
+invariant-loop-class l = least l.first (taken_of (declared l.classes) (drop l.class (declared l.classes))) ≡ least None (broken_11 (declared l.classes))

@@ -1,7 +1,7 @@
 use Rattle.std.proofs.Common.{◌≡◌, ◌+◌, drop, length, ap, arith}
 use Rattle.cdl_scopes.specs.Classes.{declared}
-use Rattle.cdl_scopes.specs.Gathered.{IsShown}
-use Rattle.cdl_scopes.specs.Kept.{name_count, names_of, names_in}
+use Rattle.cdl_scopes.specs.inner.Gathered.{IsShown}
+use Rattle.cdl_scopes.specs.inner.Kept.{name_count, names_of, names_in}
 use Rattle.cdl_scopes.proofs.Lists.{none_dropped, drop_at}
 use Rattle.cdl_scopes.proofs.Lists.{zip_length}
 use Rattle.cdl_scopes.proofs.Listing.{listed_at}

@@ -1,6 +1,6 @@
 use Rattle.std.proofs.Common.{◌≡◌, ◌+◌, ◌<◌, ◌^◌, drop}
 use Rattle.cdl_scopes.specs.Classes.{declared}
-use Rattle.cdl_scopes.specs.Kept.{name_count, names_of}
+use Rattle.cdl_scopes.specs.inner.Kept.{name_count, names_of}
 use Rattle.cdl_scopes.proofs.count.count_names.Given as goal
 
 abbrev pub invariant-loop-class : goal.invariant-loop-class

@@ -3,7 +3,7 @@ use Rattle.std.specs.List.{slice_get}
 use Rattle.cdl_tree.specs.declared.class.FileTree.{FileTree}
 use Rattle.cdl_scopes.specs.Classes.{Full, declared}
 use Rattle.cdl_scopes.specs.Lookup.{library}
-use Rattle.cdl_scopes.specs.Gathered.{IsGathered}
+use Rattle.cdl_scopes.specs.inner.Gathered.{IsGathered}
 use Rattle.cdl_scopes.specs.Classes.{cut}
 use Rattle.cdl_scopes.proofs.Cuts.{onto}
 use Rattle.cdl_scopes.proofs.full_name.name_at.Given as goal

@@ -4,7 +4,7 @@ use Rattle.std.specs.List.{slice_get}
 use Rattle.std.proofs.lemmas.Option.{slice_get_read}
 use Rattle.cdl_tree.specs.declared.class.ClassTree.{ClassTree, the_lemmas}
 use Rattle.cdl_tree.specs.Parts.{classes_of}
-use Rattle.cdl_scopes.specs.Gathered.{tree_at}
+use Rattle.cdl_scopes.specs.inner.Gathered.{tree_at}
 use Rattle.cdl_scopes.proofs.Walk.{tree_at_push, listed_more, after_more, after_class, after_none, same_after, all_taken}
 use Rattle.cdl_scopes.proofs.gather.+gather.Goals as goal
 

@@ -4,7 +4,7 @@ use Rattle.cdl_tree.specs.declared.class.ClassTree.{ClassTree}
 use Rattle.cdl_tree.specs.declared.class.FileTree.{FileTree}
 use Rattle.cdl_tree.specs.Parts.{classes_of}
 use Rattle.cdl_scopes.specs.Classes.{Declared, Full, declared_all}
-use Rattle.cdl_scopes.specs.Gathered.{After, IsGathered, tree_at}
+use Rattle.cdl_scopes.specs.inner.Gathered.{After, IsGathered, tree_at}
 use Rattle.cdl_scopes.proofs.gather.+gather.Given as goal
 
 abbrev pub invariant-gather_all-loop-class : goal.invariant-gather_all-loop-class

@@ -1,5 +1,5 @@
 use Rattle.std.proofs.Common.{◌≡◌, ◌∙◌, ℕ, List, ap, refl, length, arith}
-use Rattle.cdl_scopes.specs.Gathered.{tree_at}
+use Rattle.cdl_scopes.specs.inner.Gathered.{tree_at}
 use Rattle.cdl_scopes.proofs.Adding.{class_added_as}
 use Rattle.cdl_tree.specs.declared.name.Ident.{Ident}
 use Rattle.cdl_scopes.proofs.gather.add_class.Goals as goal

@@ -4,7 +4,7 @@ use Rattle.std.proofs.lemmas.Option.{slice_get_read}
 use Rattle.cdl_tree.specs.declared.class.ClassTree.{ClassTree}
 use Rattle.cdl_scopes.specs.Classes.{Full, full, declared_all, within_of}
 use Rattle.cdl_scopes.specs.Lookup.{library}
-use Rattle.cdl_scopes.specs.Gathered.{After, FileSoFar}
+use Rattle.cdl_scopes.specs.inner.Gathered.{After, FileSoFar}
 use Rattle.cdl_scopes.proofs.Walk.{same_after, take_whole}
 use Rattle.cdl_scopes.proofs.Within.{file_begun, file_next, file_done, top_at, none_in, some_in}
 use Rattle.cdl_scopes.proofs.gather.gather_file.Goals as goal

@@ -3,7 +3,7 @@ use Rattle.std.specs.List.{slice_get}
 use Rattle.cdl_tree.specs.declared.class.FileTree.{FileTree}
 use Rattle.cdl_scopes.specs.Classes.{Declared, declared_all, within_of}
 use Rattle.cdl_scopes.specs.Lookup.{library}
-use Rattle.cdl_scopes.specs.Gathered.{FileSoFar, IsGathered}
+use Rattle.cdl_scopes.specs.inner.Gathered.{FileSoFar, IsGathered}
 use Rattle.cdl_scopes.proofs.gather.gather_file.Given as goal
 
 abbrev pub invariant-loop-class : goal.invariant-loop-class

@@ -4,7 +4,7 @@ use Rattle.std.proofs.lemmas.Option.{slice_get_read}
 use Rattle.cdl_tree.specs.declared.class.FileTree.{FileTree}
 use Rattle.cdl_scopes.specs.Classes.{declared, declared_all, within_of}
 use Rattle.cdl_scopes.specs.Lookup.{library}
-use Rattle.cdl_scopes.specs.Gathered.{IsGathered, After}
+use Rattle.cdl_scopes.specs.inner.Gathered.{IsGathered, After}
 use Rattle.cdl_scopes.proofs.Walk.{take_whole}
 use Rattle.cdl_scopes.proofs.Within.{files_next}
 use Rattle.cdl_scopes.proofs.gather.gather_files.Goals as goal

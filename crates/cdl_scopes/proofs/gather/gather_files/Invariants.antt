@@ -1,7 +1,7 @@
 use Rattle.std.proofs.Common.{◌≡◌, take}
 use Rattle.cdl_scopes.specs.Classes.{declared}
 use Rattle.cdl_scopes.specs.Lookup.{library}
-use Rattle.cdl_scopes.specs.Gathered.{IsGathered}
+use Rattle.cdl_scopes.specs.inner.Gathered.{IsGathered}
 use Rattle.cdl_scopes.proofs.gather.gather_files.Given as goal
 
 abbrev pub invariant-loop-tree : goal.invariant-loop-tree

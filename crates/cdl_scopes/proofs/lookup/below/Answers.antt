@@ -3,7 +3,7 @@ use Rattle.std.specs.List.{slice_get}
 use Rattle.std.proofs.lemmas.List.{length-map}
 use Rattle.cdl_scopes.specs.Classes.{declared, text_of}
 use Rattle.cdl_scopes.specs.Lookup.{Entity, a_package, in_cdl, in_modelica, leads, cdl_name, modelica_name}
-use Rattle.cdl_scopes.specs.Known.{means}
+use Rattle.cdl_scopes.specs.inner.Known.{means}
 use Rattle.cdl_scopes.proofs.Finding.{package_is, package_at, own_package, cdl_leads, modelica_leads, not_cdl, not_modelica}
 use Rattle.cdl_scopes.proofs.lookup.below.Goals as goal
 

@@ -1,7 +1,7 @@
 use Rattle.std.proofs.Common.{◌≡◌, Some, map, drop}
 use Rattle.cdl_scopes.specs.Classes.{declared, text_of}
 use Rattle.cdl_scopes.specs.Lookup.{Entity, leads}
-use Rattle.cdl_scopes.specs.Known.{Known, IsOver, means}
+use Rattle.cdl_scopes.specs.inner.Known.{Known, IsOver, means}
 use Rattle.cdl_scopes.proofs.lookup.leads.Given as goal
 
 abbrev pub invariant-loop-i : goal.invariant-loop-i

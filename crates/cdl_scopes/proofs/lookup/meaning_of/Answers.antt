@@ -3,7 +3,7 @@ use Rattle.cdl_scopes.specs.Classes.{full, text_of}
 use Rattle.cdl_scopes.specs.declared.lookup.ClassSort.TheVariants as sort
 use Rattle.cdl_scopes.proofs.StandingLaws.{shown_at}
 use Rattle.cdl_scopes.proofs.Finding.{finds_as}
-use Rattle.cdl_scopes.proofs.Meaning.{scoped_name, scoped_outer, meaning_is, meaning_none}
+use Rattle.cdl_scopes.proofs.Meanings.{scoped_name, scoped_outer, meaning_is, meaning_none}
 use Rattle.cdl_scopes.proofs.lookup.meaning_of.Goals as goal
 
 pub returns-in_default : goal.returns-in_default

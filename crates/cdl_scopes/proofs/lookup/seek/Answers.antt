@@ -4,14 +4,14 @@ use Rattle.std.proofs.Math.Seq.{take-length}
 use Rattle.std.proofs.lemmas.Option.{slice_get_read, slice_get_within, same_Some}
 use Rattle.cdl_tree.specs.declared.class.FileTree.{FileTree}
 use Rattle.cdl_scopes.specs.declared.scopes.Outwards.{Outwards}
-use Rattle.cdl_scopes.specs.Outwards.{AreOutwards, next_for}
+use Rattle.cdl_scopes.specs.inner.Outwards.{AreOutwards, next_for}
 use Rattle.cdl_scopes.proofs.Passing.{free_front}
 use Rattle.std.proofs.lemmas.List.{length-take-le}
 use Rattle.cdl_scopes.specs.declared.gather.Classes.{Classes}
 use Rattle.cdl_scopes.specs.declared.lookup.Sought.{Sought}
 use Rattle.cdl_scopes.specs.Classes.{Full, declared}
 use Rattle.cdl_scopes.specs.Lookup.{has, seek, in_library}
-use Rattle.cdl_scopes.specs.Known.{Known}
+use Rattle.cdl_scopes.specs.inner.Known.{Known}
 use Rattle.cdl_scopes.proofs.Finding.{finds_as, seek_found, none_taken, not_front, take_less, seek_front}
 use Rattle.cdl_scopes.proofs.lookup.seek.Goals as goal
 

@@ -2,7 +2,7 @@ use Rattle.std.proofs.Common.{◌≡◌, ◌≤◌, ℕ, false, Some, take, leng
 use Rattle.std.specs.List.{slice_get}
 use Rattle.cdl_scopes.specs.Classes.{Full, declared}
 use Rattle.cdl_scopes.specs.Lookup.{in_library, seek}
-use Rattle.cdl_scopes.specs.Known.{Known}
+use Rattle.cdl_scopes.specs.inner.Known.{Known}
 use Rattle.cdl_scopes.proofs.lookup.seek.Given as goal
 
 abbrev pub invariant-loop-scope : goal.invariant-loop-scope

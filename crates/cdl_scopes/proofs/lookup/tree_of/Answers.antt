@@ -2,7 +2,7 @@ use Rattle.std.proofs.Common.{◌≡◌, ◌∙◌, ◌<◌, ◌+◌, ℕ, List,
 use Rattle.std.specs.List.{slice_get}
 use Rattle.cdl_tree.specs.declared.class.ClassTree.{ClassTree}
 use Rattle.cdl_tree.specs.Parts.{classes_of}
-use Rattle.cdl_scopes.specs.Gathered.{descend}
+use Rattle.cdl_scopes.specs.inner.Gathered.{descend}
 use Rattle.cdl_scopes.proofs.StandingLaws.{turn}
 use Rattle.cdl_scopes.proofs.lookup.tree_of.Goals as goal
 

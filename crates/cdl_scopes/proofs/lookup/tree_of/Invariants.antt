@@ -1,5 +1,5 @@
 use Rattle.std.proofs.Common.{◌≡◌, drop}
-use Rattle.cdl_scopes.specs.Gathered.{descend, tree_at}
+use Rattle.cdl_scopes.specs.inner.Gathered.{descend, tree_at}
 use Rattle.cdl_scopes.proofs.lookup.tree_of.Given as goal
 
 abbrev pub invariant-loop-step : goal.invariant-loop-step

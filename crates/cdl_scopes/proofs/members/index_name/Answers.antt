@@ -2,7 +2,7 @@ use Rattle.std.proofs.Common.{◌∙◌, sym, ap, refl}
 use Rattle.std.specs.Map.{lookup}
 use Rattle.cdl_scopes.proofs.Entries.{at, lookup-insert}
 use Rattle.cdl_scopes.proofs.Firsts.{named_again, named_new}
-use Rattle.cdl_scopes.specs.Numbered.{entry}
+use Rattle.cdl_scopes.specs.Entries.{entry}
 use Rattle.cdl_scopes.proofs.members.index_name.Goals as goal
 
 pub returns-then-contains_key : goal.returns-then-contains_key

@@ -1,7 +1,7 @@
 use Rattle.std.proofs.Common.{◌≡◌, ◌++◌, ℕ, List, map, take}
 use Rattle.cdl_scopes.specs.Classes.{text_of}
 use Rattle.cdl_scopes.specs.Lookup.{first_named, item_name}
-use Rattle.cdl_scopes.specs.Numbered.{entry}
+use Rattle.cdl_scopes.specs.Entries.{entry}
 use Rattle.cdl_scopes.proofs.members.members.Given as goal
 
 abbrev pub invariant-loop-i : goal.invariant-loop-i

@@ -2,7 +2,7 @@ use Rattle.std.proofs.Common.{◌≡◌, ◌∙◌, ◌++◌, ◌∷◌, ◌<◌
 use Rattle.std.proofs.lemmas.List.{take_more, map-append}
 use Rattle.cdl_tree.specs.declared.name.Ident.{Ident}
 use Rattle.cdl_scopes.specs.Classes.{Full, text_of}
-use Rattle.cdl_scopes.specs.Numbered.{WithinAdded}
+use Rattle.cdl_scopes.specs.inner.Numbered.{WithinAdded}
 use Rattle.cdl_scopes.proofs.Walk.{take_whole}
 use Rattle.cdl_scopes.proofs.Within.{within_none, within_more}
 use Rattle.cdl_scopes.proofs.names.number_parts.Goals as goal

@@ -1,6 +1,6 @@
 use Rattle.std.proofs.Common.{List, map, take}
 use Rattle.cdl_scopes.specs.Classes.{Full, text_of}
-use Rattle.cdl_scopes.specs.Numbered.{Names, WithinAdded}
+use Rattle.cdl_scopes.specs.inner.Numbered.{Names, WithinAdded}
 use Rattle.cdl_scopes.proofs.names.number_parts.Given as goal
 
 abbrev pub invariant-loop-part : goal.invariant-loop-part

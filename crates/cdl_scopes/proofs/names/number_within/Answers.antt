@@ -1,6 +1,6 @@
 use Rattle.std.proofs.Common.{sym, ap, subst}
 use Rattle.cdl_scopes.specs.Classes.{Full, within_of}
-use Rattle.cdl_scopes.specs.Numbered.{WithinAdded}
+use Rattle.cdl_scopes.specs.inner.Numbered.{WithinAdded}
 use Rattle.cdl_scopes.proofs.Within.{within_none}
 use Rattle.cdl_scopes.proofs.names.number_within.Goals as goal
 

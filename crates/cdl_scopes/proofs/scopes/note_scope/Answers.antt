@@ -1,6 +1,6 @@
 use Rattle.std.proofs.Common.{◌∙◌, sym, ap, refl}
 use Rattle.std.specs.Map.{lookup}
-use Rattle.cdl_scopes.specs.Numbered.{entry}
+use Rattle.cdl_scopes.specs.Entries.{entry}
 use Rattle.cdl_scopes.proofs.Entries.{at, lookup-insert}
 use Rattle.cdl_scopes.proofs.Passing.{noted_again, noted_new}
 use Rattle.cdl_scopes.proofs.scopes.note_scope.Goals as goal

@@ -2,7 +2,7 @@ use Rattle.std.proofs.Common.{◌≡◌, ap, refl, Some}
 use Rattle.std.specs.List.{slice_get}
 use Rattle.std.specs.Map.{lookup}
 use Rattle.std.proofs.lemmas.Option.{slice_get_read}
-use Rattle.cdl_scopes.specs.Numbered.{entry}
+use Rattle.cdl_scopes.specs.Entries.{entry}
 use Rattle.cdl_scopes.proofs.Entries.{at}
 use Rattle.cdl_scopes.proofs.Passing.{lower_begun, lower_further, row_begun, row_further, smaller}
 use Rattle.cdl_scopes.proofs.scopes.outwards_of.Goals as goal

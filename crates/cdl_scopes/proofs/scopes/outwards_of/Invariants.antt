@@ -4,9 +4,9 @@ use Rattle.std.specs.List.{slice_get}
 use Rattle.cdl_scopes.specs.declared.lookup.Sought.{Sought}
 use Rattle.cdl_scopes.specs.Classes.{Full, declared}
 use Rattle.cdl_scopes.specs.Lookup.{library, in_library, has}
-use Rattle.cdl_scopes.specs.Gathered.{IsGathered}
-use Rattle.cdl_scopes.specs.Numbered.{entry}
-use Rattle.cdl_scopes.specs.Outwards.{SoughtAt}
+use Rattle.cdl_scopes.specs.inner.Gathered.{IsGathered}
+use Rattle.cdl_scopes.specs.Entries.{entry}
+use Rattle.cdl_scopes.specs.inner.Outwards.{SoughtAt}
 use Rattle.cdl_scopes.proofs.scopes.outwards_of.Given as goal
 
 abbrev pub invariant-loop-name : goal.invariant-loop-name

@@ -1,0 +1,5 @@
+pub mod Numbered
+pub mod Gathered
+pub mod Known
+pub mod Outwards
+pub mod Kept
