@@ -17,6 +17,7 @@ use crate::free_names::first_taken;
 use crate::table::ClassFault;
 use cdl_scopes::{ClassSort, DeclaredClasses, Meaning, Sought, sort_of};
 use cdl_source::List;
+use cdl_source::rules::{DECLARED_TWICE, NAME_NOT_FREE};
 use cdl_tree::{ClassTree, FileTree, Name};
 use std::alloc::Global;
 use std::marker::Model;
@@ -100,11 +101,17 @@ impl Declarations {
         };
         match first_twice(alloc, &classes) {
             Ok(None) => {}
-            Ok(Some(place)) => return Err(ClassFault::Rule { rule: 10, place }),
+            Ok(Some(place)) => return Err(ClassFault::Rule {
+                rule: DECLARED_TWICE,
+                place,
+            }),
             Err(_) => return Err(ClassFault::OutOfMemory),
         }
         if let Some(place) = first_taken(&classes) {
-            return Err(ClassFault::Rule { rule: 11, place });
+            return Err(ClassFault::Rule {
+                rule: NAME_NOT_FREE,
+                place,
+            });
         }
         Ok(Declarations { classes })
     }

@@ -17,6 +17,7 @@ ghost use Rattle.cdl_scopes.specs.declared.lookup.Sought.TheVariants as sought;
 use crate::declarations::Declarations;
 use crate::found::{ClassId, Found, ValueFound};
 use crate::item_classes::{Asked, first_item, item_classes};
+use cdl_source::rules::{NAME_NOT_FOUND, NOT_SUPPORTED};
 use cdl_source::{List, OutOfMemory, Place};
 use cdl_tree::{ClassTree, FileTree, Name};
 use std::alloc::Global;
@@ -88,10 +89,16 @@ impl ClassTable {
             Err(_) => return Err(ClassFault::OutOfMemory),
         };
         if let Some(place) = first_item(&declarations, Asked::Found, item_classes.as_slice()) {
-            return Err(ClassFault::Rule { rule: 12, place });
+            return Err(ClassFault::Rule {
+                rule: NAME_NOT_FOUND,
+                place,
+            });
         }
         if let Some(place) = first_item(&declarations, Asked::Supported, item_classes.as_slice()) {
-            return Err(ClassFault::Rule { rule: 13, place });
+            return Err(ClassFault::Rule {
+                rule: NOT_SUPPORTED,
+                place,
+            });
         }
         Ok(ClassTable {
             declarations,
