@@ -5,7 +5,7 @@ use Rattle.std.specs.Int.Digits.{AllBelowBase, digits_of}
 use Rattle.std.specs.List.{list_all}
 use Rattle.std.proofs.lemmas.Bool.{and_from, and_parts, false≢true, lt-ltb}
 use Rattle.std.proofs.lemmas.Int.Digits.{all_below_base_digits_of}
-use Rattle.std.proofs.lemmas.List.Elements.{All-append, All-cons, All-map, All-nil}
+use Rattle.std.proofs.lemmas.List.Elements.{All-cons, All-map, All-nil}
 use Rattle.std.proofs.lemmas.Nat.{div_below, mod_below}
 use Rattle.std.proofs.Math.Nat.{pow-suc}
 use Rattle.std.proofs.Common.{lit≤, lit<}
@@ -19,14 +19,16 @@ use Rattle.cdl_values.specs.declared.value.ValueType.TheVariants.{Boolean as Boo
 use Rattle.cdl_values.specs.Values.{IsArray, IsOf, first, integer_at, items_of}
 use Rattle.cdl_kinds.specs.declared.kind.Kind.{Kind}
 use Rattle.cdl_kinds.specs.declared.kind.Kind.TheVariants as kind
-use Rattle.cdl_kinds.specs.Conditions.{FitRows, FitsRow, Keeps}
+use Rattle.cdl_kinds.specs.Conditions.{FitRows, Keeps}
 use Rattle.cdl_kinds.specs.Names.{kind_name}
 use Rattle.cdl_kinds.specs.Parameters.{parameters}
 use Rattle.cdl_kinds.specs.Table.{ParameterRow}
 use Rattle.cdl_connect.specs.WellFormed.{is_plain}
 use Rattle.cdl_network.specs.Rules.{is_empty}
 use Rattle.cxf_graph.specs.declared.graph.Given.{Given}
+use Rattle.cxf_graph.specs.declared.graph.GivenItem.{GivenItem}
 use Rattle.cxf_graph.specs.declared.graph.GivenItem.TheVariants.{Bad}
+use Rattle.cxf_graph.specs.declared.graph.GivenValue.{GivenValue}
 use Rattle.cxf_graph.specs.declared.graph.GivenValue.TheVariants.{Item, List as Listed}
 use Rattle.cxf_graph.specs.Document.{IsGiven, IsItem, IsValue}
 use Rattle.cxf_graph.specs.Written.{given_all, given_in, given_item, given_value}
@@ -89,23 +91,24 @@ item_writable RealType (Enumeration c o) p h = absurd h
 item_writable StrType (Enumeration c o) p h = absurd (false≢true p)
 item_writable (EnumerationType d) (Enumeration c o) p h = absurd (false≢true p)
 
-items_writable : (t : ValueType) (vs : List Value) → is_plain t ≡ true → All (IsOf t) vs → All IsItem (map given_item vs)
-items_writable t vs p h = All-map IsItem given_item vs (λ k d l. item_writable t _ p (h k d l))
+-- what holds of a value where something holds of its items
+module _ (P : GivenItem → Type 0) (Q : GivenValue → Type 0) (one : (g : GivenItem) → P g → Q (Item g)) (many : (gs : List GivenItem) → All P gs → Q (Listed gs)) where
+  scalar_has : (t : ValueType) (vs : List Value) → ((v : Value) → IsOf t v → P (given_item v)) → All (IsOf t) vs → length vs ≡ 1 → P (first given_item Bad vs)
+  scalar_has t [] f h e = absurd (omega arith)
+  scalar_has t (v ∷ vs) f h e = f v (h 0 v (omega arith))
 
--- a scalar has its one item
-scalar_writable : (t : ValueType) (vs : List Value) → is_plain t ≡ true → All (IsOf t) vs → length vs ≡ 1 → IsItem (first given_item Bad vs)
-scalar_writable t [] p h e = absurd (omega arith)
-scalar_writable t (v ∷ vs) p h e = item_writable t v p (h 0 v (omega arith))
+  by_shape : (shape : List ℕ) (t : ValueType) (vs : List Value) → ((v : Value) → IsOf t v → P (given_item v)) → All (IsOf t) vs → length vs ≡ items_of shape → Q (cond (is_empty shape) (Item (first given_item Bad vs)) (Listed (map given_item vs)))
+  by_shape [] t vs f h e = one (first given_item Bad vs) (scalar_has t vs f h e)
+  by_shape (n ∷ ns) t vs f h e = many (map given_item vs) (All-map P given_item vs (λ k d l. f _ (h k d l)))
 
-by_shape : (shape : List ℕ) (t : ValueType) (vs : List Value) → is_plain t ≡ true → All (IsOf t) vs → length vs ≡ items_of shape → IsValue (cond (is_empty shape) (Item (first given_item Bad vs)) (Listed (map given_item vs)))
-by_shape [] t vs p h e = scalar_writable t vs p h e
-by_shape (n ∷ ns) t vs p h e = items_writable t vs p h
+  pub value_has : (a : Array) → ((v : Value) → IsOf a.value_type v → P (given_item v)) → IsArray a → Q (given_value a)
+  value_has a f i = by_shape a.shape a.value_type a.items f i.each i.count
 
 value_writable : (a : Array) → is_plain a.value_type ≡ true → IsArray a → IsValue (given_value a)
-value_writable a p i = by_shape a.shape a.value_type a.items p i.each i.count
+value_writable a p i = value_has IsItem IsValue (λ g h. h) (λ gs h. h) a (λ v h. item_writable a.value_type v p h) i
 
 -- names are ASCII, and each parameter is Boolean, Integer or Real
-abbrev pub is_fine_row : ParameterRow → Bool
+abbrev is_fine_row : ParameterRow → Bool
 is_fine_row r = list_all is_low r.name && is_plain r.value_type
 
 kind_fine : (k : Kind) → (list_all is_low (kind_name k) && list_all is_fine_row (parameters k)) ≡ true
@@ -115,25 +118,40 @@ kind_fine _ = refl
 pub name_utf8 : (k : Kind) → IsUtf8 (kind_name k)
 name_utf8 k = low_utf8 (kind_name k) (and_parts (list_all is_low (kind_name k)) (list_all is_fine_row (parameters k)) (kind_fine k)).0
 
-one_writable : (nin : ℤ) (r : ParameterRow) (a : Array) → is_fine_row r ≡ true → FitsRow nin r a → All IsGiven (given_in r (Some a))
-one_writable nin r a h f =
-    let b = and_parts (list_all is_low r.name) (is_plain r.value_type) h in
-    let given : Given = record { name = r.name; value = given_value a } in
-    All-cons IsGiven given [] (low_utf8 r.name b.0, value_writable a (ap is_plain f.value_type ∙ b.1) f.array) (All-nil IsGiven)
+-- the parameters of these rows, with these values
+abbrev pub paired : List ParameterRow → List Array → List Given
+paired [] v = []
+paired (r ∷ rs) [] = []
+paired (r ∷ rs) (a ∷ v) = record { name = r.name; value = given_value a } ∷ paired rs v
 
-rows_writable : (nin : ℤ) (rs : List ParameterRow) (all v : List Array) (i : ℕ) → list_all is_fine_row rs ≡ true → FitRows nin rs v → ((j : ℕ) → slice_get all (i + j) ≡ slice_get v j) → All IsGiven (given_all all i rs)
-rows_writable nin [] all v i h f s = All-nil IsGiven
-rows_writable nin (r ∷ rs) all [] i h f s = absurd f
-rows_writable nin (r ∷ rs) all (a ∷ v) i h f s =
-    let b = and_parts (is_fine_row r) (list_all is_fine_row rs) h in
+rows_paired : (nin : ℤ) (rs : List ParameterRow) (all v : List Array) (i : ℕ) → FitRows nin rs v → ((j : ℕ) → slice_get all (i + j) ≡ slice_get v j) → given_all all i rs ≡ paired rs v
+rows_paired nin [] all v i f s = refl
+rows_paired nin (r ∷ rs) all [] i f s = absurd f
+rows_paired nin (r ∷ rs) all (a ∷ v) i f s =
     let z : i + 0 ≡ i = omega arith in
     let e : slice_get all i ≡ Some a = ap (slice_get all) (sym z) ∙ s 0 in
-    let rest = rows_writable nin rs all v (suc i) b.1 f.1 (λ j. let q : suc i + j ≡ i + suc j = omega arith in ap (slice_get all) q ∙ s (suc j)) in
-    All-append IsGiven (given_in r (slice_get all i)) (given_all all (suc i) rs) (rw e (one_writable nin r a b.0 f.0)) rest
+    let rest = rows_paired nin rs all v (suc i) f.1 (λ j. let q : suc i + j ≡ i + suc j = omega arith in ap (slice_get all) q ∙ s (suc j)) in
+    ap (λ o. given_in r o ++ given_all all (suc i) rs) e ∙ ap (λ l. record { name = r.name; value = given_value a } ∷ l) rest
 
-pub rows_fine : (k : Kind) → list_all is_fine_row (parameters k) ≡ true
-rows_fine k = (and_parts (list_all is_low (kind_name k)) (list_all is_fine_row (parameters k)) (kind_fine k)).1
+pub given_paired : (k : Kind) (v : List Array) → Keeps k v → given_all v 0 (parameters k) ≡ paired (parameters k) v
+given_paired k v h = rows_paired (integer_at v 0) (parameters k) v v 0 h.fits.rows (λ j. let z : 0 + j ≡ j = omega arith in ap (slice_get v) z)
+
+-- names are UTF-8, and of each value holds what holds of values of plain types
+module _ (Q : GivenValue → Type 0) (value : (a : Array) → is_plain a.value_type ≡ true → IsArray a → Q (given_value a)) where
+  all_paired : (nin : ℤ) (rs : List ParameterRow) (v : List Array) → list_all is_fine_row rs ≡ true → FitRows nin rs v → All (λ (g : Given). IsUtf8 g.name × Q g.value) (paired rs v)
+  all_paired nin [] v h f = All-nil (λ (g : Given). IsUtf8 g.name × Q g.value)
+  all_paired nin (r ∷ rs) [] h f = All-nil (λ (g : Given). IsUtf8 g.name × Q g.value)
+  all_paired nin (r ∷ rs) (a ∷ v) h f =
+      let b = and_parts (is_fine_row r) (list_all is_fine_row rs) h in
+      let c = and_parts (list_all is_low r.name) (is_plain r.value_type) b.0 in
+      All-cons (λ (g : Given). IsUtf8 g.name × Q g.value) (record { name = r.name; value = given_value a }) (paired rs v)
+      (low_utf8 r.name c.0, value a (ap is_plain f.0.value_type ∙ c.1) f.0.array)
+      (all_paired nin rs v b.1 f.1)
+
+  pub each_given : (k : Kind) (v : List Array) → Keeps k v → All (λ (g : Given). IsUtf8 g.name × Q g.value) (given_all v 0 (parameters k))
+  each_given k v h =
+      let fine = (and_parts (list_all is_low (kind_name k)) (list_all is_fine_row (parameters k)) (kind_fine k)).1 in
+      rw (given_paired k v h) (all_paired (integer_at v 0) (parameters k) v fine h.fits.rows)
 
 pub given_writable : (k : Kind) (v : List Array) → Keeps k v → All IsGiven (given_all v 0 (parameters k))
-given_writable k v h =
-    rows_writable (integer_at v 0) (parameters k) v v 0 (rows_fine k) h.fits.rows (λ j. let z : 0 + j ≡ j = omega arith in ap (slice_get v) z)
+given_writable k v h = each_given IsValue value_writable k v h

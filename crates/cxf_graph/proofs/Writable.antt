@@ -69,16 +69,26 @@ instance_writable n w i t s =
     All-cons IsNode node (map (connector_node t) (own n t)) (p, body_writable n i t t.body w p (w.kinds.each i t s))
     (All-map IsNode (connector_node t) (own n t) (λ k d h. (extended_utf8 t.path _ p (a k d h).0, ((a k d h).1, (a k d h).2))))
 
-nodes_writable : (n : Net) → IsWellFormed n → (i : ℕ) (ts : List NetInstance) → ((j : ℕ) → slice_get n.instances (i + j) ≡ slice_get ts j) → All IsNode (nodes_from n i ts)
+-- these instances stand in the net from that number on
+abbrev pub StandAt : Net → ℕ → List NetInstance → Type 0
+StandAt n i ts = (j : ℕ) → slice_get n.instances (i + j) ≡ slice_get ts j
+
+pub all_stand : (n : Net) → StandAt n 0 n.instances
+all_stand n j = let z : 0 + j ≡ j = omega arith in ap (slice_get n.instances) z
+
+pub first_stands : (n : Net) (i : ℕ) (t : NetInstance) (ts : List NetInstance) → StandAt n i (t ∷ ts) → slice_get n.instances i ≡ Some t
+first_stands n i t ts s = let z : i + 0 ≡ i = omega arith in ap (slice_get n.instances) (sym z) ∙ s 0
+
+pub rest_stand : (n : Net) (i : ℕ) (t : NetInstance) (ts : List NetInstance) → StandAt n i (t ∷ ts) → StandAt n (suc i) ts
+rest_stand n i t ts s j = let q : suc i + j ≡ i + suc j = omega arith in ap (slice_get n.instances) q ∙ s (suc j)
+
+nodes_writable : (n : Net) → IsWellFormed n → (i : ℕ) (ts : List NetInstance) → StandAt n i ts → All IsNode (nodes_from n i ts)
 nodes_writable n w i [] s = All-nil IsNode
 nodes_writable n w i (t ∷ ts) s =
-    let z : i + 0 ≡ i = omega arith in
-    let e : slice_get n.instances i ≡ Some t = ap (slice_get n.instances) (sym z) ∙ s 0 in
-    let rest = nodes_writable n w (suc i) ts (λ j. let q : suc i + j ≡ i + suc j = omega arith in ap (slice_get n.instances) q ∙ s (suc j)) in
-    All-append IsNode (nodes_with n t (parts n i) (inner n i)) (nodes_from n (suc i) ts) (instance_writable n w i t e) rest
+    All-append IsNode (nodes_with n t (parts n i) (inner n i)) (nodes_from n (suc i) ts) (instance_writable n w i t (first_stands n i t ts s)) (nodes_writable n w (suc i) ts (rest_stand n i t ts s))
 
 pub graph_writable : (n : Net) → IsWellFormed n → IsWritable (graph_of n)
-graph_writable n w = nodes_writable n w 0 n.instances (λ j. let z : 0 + j ≡ j = omega arith in ap (slice_get n.instances) z)
+graph_writable n w = nodes_writable n w 0 n.instances (all_stand n)
 
 -- so can what was made of a net that is the same
 pub writable_as : (n m : Net) (g : Graph) → g ≡ graph_of m → m ≡ n → IsWellFormed n → IsWritable g

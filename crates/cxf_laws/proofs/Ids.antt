@@ -26,6 +26,7 @@ use Rattle.cxf_graph.specs.Reading.{AreFine, IsFineBody, IsGraphOf, in_order}
 use Rattle.cxf_graph.specs.Written.{body_with, connector_node, element_id, graph_of, inner, nodes_from, nodes_with, own, own_id, parts}
 use Rattle.cxf_graph.specs.Document.{document}
 use Rattle.cxf_graph.proofs.Back.{graph_back}
+use Rattle.cxf_graph.proofs.Writable.{StandAt, all_stand, first_stands, rest_stand}
 use Rattle.cxf_laws.proofs.Arrays.{apart_append, apart_map, in_append}
 use Rattle.cxf_laws.proofs.Paths.{id_apart, path_apart, path_not_id}
 
@@ -110,47 +111,35 @@ abbrev ids_from : Net → ℕ → List NetInstance → List (List ℕ)
 ids_from n i [] = []
 ids_from n i (t ∷ ts) = group_ids n i t ++ ids_from n (suc i) ts
 
--- the instances stand in the net from that number on
-abbrev pub StandsAt : Net → ℕ → List NetInstance → Type 0
-StandsAt n i ts = (j : ℕ) → slice_get n.instances (i + j) ≡ slice_get ts j
-
-pub first_at : (n : Net) (i : ℕ) (t : NetInstance) (ts : List NetInstance) → StandsAt n i (t ∷ ts) → slice_get n.instances i ≡ Some t
-first_at n i t ts s = let z : i + 0 ≡ i = omega arith in ap (slice_get n.instances) (sym z) ∙ s 0
-
-pub rest_at : (n : Net) (i : ℕ) (t : NetInstance) (ts : List NetInstance) → StandsAt n i (t ∷ ts) → StandsAt n (suc i) ts
-rest_at n i t ts s j = let q : suc i + j ≡ i + suc j = omega arith in ap (slice_get n.instances) q ∙ s (suc j)
-
 later_from : (n : Net) (i : ℕ) (z : List ℕ) → IsFrom n (suc i) z → IsFrom n i z
 later_from n i z (inl f) = inl (f.0, omega (arith, f.1), f.2, f.3)
 later_from n i z (inr f) = inr (f.0, f.1, omega (arith, f.2), f.3)
 
-all_from : (n : Net) → IsWellFormed n → (i : ℕ) (ts : List NetInstance) → StandsAt n i ts → (z : List ℕ) → In z (ids_from n i ts) → IsFrom n i z
+all_from : (n : Net) → IsWellFormed n → (i : ℕ) (ts : List NetInstance) → StandAt n i ts → (z : List ℕ) → In z (ids_from n i ts) → IsFrom n i z
 all_from n w i [] s z j = absurd j
 all_from n w i (t ∷ ts) s z j = ⊎_elim
-    (λ k. from_group n w i t (first_at n i t ts s) z k)
-    (λ k. later_from n i z (all_from n w (suc i) ts (rest_at n i t ts s) z k))
+    (λ k. from_group n w i t (first_stands n i t ts s) z k)
+    (λ k. later_from n i z (all_from n w (suc i) ts (rest_stand n i t ts s) z k))
     (in_append z (group_ids n i t) (ids_from n (suc i) ts) j)
 
-ids_from_apart : (n : Net) → IsWellFormed n → (i : ℕ) (ts : List NetInstance) → StandsAt n i ts → Apart (ids_from n i ts)
+ids_from_apart : (n : Net) → IsWellFormed n → (i : ℕ) (ts : List NetInstance) → StandAt n i ts → Apart (ids_from n i ts)
 ids_from_apart n w i [] s = tt
 ids_from_apart n w i (t ∷ ts) s =
-    let e = first_at n i t ts s in
-    let g = rest_at n i t ts s in
+    let e = first_stands n i t ts s in
+    let g = rest_stand n i t ts s in
     apart_append (group_ids n i t) (ids_from n (suc i) ts) (group_apart n w i t e) (ids_from_apart n w (suc i) ts g) (λ z a b. group_past n w i t e z a (all_from n w (suc i) ts g z b))
 
-ids_are : (n : Net) → IsWellFormed n → (i : ℕ) (ts : List NetInstance) → StandsAt n i ts → map id_of (nodes_from n i ts) ≡ ids_from n i ts
+ids_are : (n : Net) → IsWellFormed n → (i : ℕ) (ts : List NetInstance) → StandAt n i ts → map id_of (nodes_from n i ts) ≡ ids_from n i ts
 ids_are n w i [] s = refl
 ids_are n w i (t ∷ ts) s =
-    let e = first_at n i t ts s in
+    let e = first_stands n i t ts s in
     let p : t.path ≡ path_of n i = sym (ap path_in e) in
-    let r = ids_are n w (suc i) ts (rest_at n i t ts s) in
+    let r = ids_are n w (suc i) ts (rest_stand n i t ts s) in
     map-append id_of (nodes_with n t (parts n i) (inner n i)) (nodes_from n (suc i) ts)
     ∙ rw (own_ids n w i t e, p, r) refl
 
 pub ids_apart : (n : Net) → IsWellFormed n → Apart (map id_of (nodes_from n 0 n.instances))
-ids_apart n w =
-    let s : StandsAt n 0 n.instances = λ j. let z : 0 + j ≡ j = omega arith in ap (slice_get n.instances) z in
-    rw (ids_are n w 0 n.instances s) (ids_from_apart n w 0 n.instances s)
+ids_apart n w = rw (ids_are n w 0 n.instances (all_stand n)) (ids_from_apart n w 0 n.instances (all_stand n))
 
 -- fine nodes
 fine_append : (ms ns : List GraphNode) → AreFine ms → AreFine ns → AreFine (ms ++ ns)
