@@ -1,3 +1,7 @@
 pub mod Each
 pub mod Floats
 pub mod Back
+pub mod Texts
+pub mod Parameters
+pub mod Parents
+pub mod Writable

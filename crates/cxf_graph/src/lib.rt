@@ -12,5 +12,5 @@ mod writer;
 
 pub use graph::{Given, GivenItem, GivenValue, Graph, GraphNode, NodeBody, Pair};
 pub use json::{text, to_json};
-pub use law::written_is_read;
+pub use law::{net_is_writable, written_is_read};
 pub use writer::write;

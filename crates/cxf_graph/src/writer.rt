@@ -1,6 +1,7 @@
 // The graph of a net.
 ghost use Rattle.std.specs.Prelude.{◌≡◌, ◌<◌, ◌+◌, ◌≤◌, ◌++◌, All, IfOk, OnOk, length, map};
-ghost use Rattle.cdl_connect.specs.WellFormed.{AreNumbers, IsIndexed};
+ghost use Rattle.cdl_connect.specs.WellFormed.{AreNumbers, IsIndexed, IsWellFormed};
+ghost use Rattle.cxf_graph.specs.Document.{IsWritable};
 ghost use Rattle.cxf_graph.specs.Written.{HasEnds, body_with, connection, connector_node, graph_of, nodes_with, own, own_id};
 
 use crate::given::given_all;
@@ -179,9 +180,11 @@ fn graph(alloc: Global, net: &Net) -> Result<Graph, OutOfMemory>
 
 /// The graph of a net: for each instance, in the net's order, its node and then those of its connector elements. A composite
 /// lists its connectors, its parts and the wires that stand in it, each from its source to its sink; an elementary block has
-/// all its parameters with their values, Reals as their canonical texts. The error is want of memory alone.
+/// all its parameters with their values, Reals as their canonical texts. The graph of a well-formed net can be written by
+/// `to_json` and `text`. The error is want of memory alone.
 pub fn write(alloc: Global, net: &CheckedNet) -> Result<Graph, OutOfMemory>
-    ensures { IfOk result (λ graph. graph ≡ graph_of net.now) }
+    ensures graph { IfOk result (λ graph. graph ≡ graph_of net.now) }
+    ensures writable { IfOk result (λ graph. IsWellFormed net.now → IsWritable graph) }
 {
     graph(alloc, net.net())
 }
