@@ -10,4 +10,6 @@ mod histories;
 #[cfg(test)]
 mod kinds;
 #[cfg(test)]
+mod sound;
+#[cfg(test)]
 mod values;
