@@ -21,7 +21,7 @@ use Rattle.cdl_connect.specs.declared.net.Body.{Body}
 use Rattle.cdl_connect.specs.declared.net.Body.TheVariants.{Composite, Elementary}
 use Rattle.cdl_connect.specs.Faults.{IsChecked}
 use Rattle.cdl_connect.specs.Nets.{element, is_block, is_elementary, network_of, no_element, words_at, words_of}
-use Rattle.cdl_connect.specs.WellFormed.{IsWellFormed}
+use Rattle.cdl_connect.specs.WellFormed.{AreOfKinds}
 use Rattle.cdl_connect.proofs.Windows.{IsOf, inputs_are, of_kind, outputs_are}
 use Rattle.cdl_network.proofs.Inside.{and_both, kept_true}
 use Rattle.cdl_run.proofs.Laying.{numbers_in}
@@ -174,9 +174,9 @@ output_at n i t k v x o a b =
     not_true (element n x).input (and_both (is_of (network_of n) i x) (not (element n x).input) h).1
 
 -- the inputs of an instance of a kind end where the first output stands, or with its elements
-pub inputs_end : (n : Net) (i : ℕ) (t : NetInstance) (k : Kind) (v : List Array) (j : ℕ) → IsChecked n → IsWellFormed n → slice_get n.instances i ≡ Some t → t.body ≡ Elementary k v → ((l : ℕ) → l < j → (element n (t.first + l)).input ≡ true) → j ≤ t.count → (j < t.count → (element n (t.first + j)).input ≡ false) → j ≡ (inputs k v).count
+pub inputs_end : (n : Net) (i : ℕ) (t : NetInstance) (k : Kind) (v : List Array) (j : ℕ) → IsChecked n → AreOfKinds n → slice_get n.instances i ≡ Some t → t.body ≡ Elementary k v → ((l : ℕ) → l < j → (element n (t.first + l)).input ≡ true) → j ≤ t.count → (j < t.count → (element n (t.first + j)).input ≡ false) → j ≡ (inputs k v).count
 inputs_end n i t k v j f w s e before h here =
-    let o = of_kind n i t k v f.indexed w.kinds s e in
+    let o = of_kind n i t k v f.indexed w s e in
     let c = o.ports.count in
     by_lt j (inputs k v).count
     (λ l. absurd (false≢true (sym (here (omega (arith, l, c))) ∙ input_at n i t k v (t.first + j) o (omega arith) (omega (arith, l)))))

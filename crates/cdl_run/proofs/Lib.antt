@@ -7,3 +7,4 @@ pub mod Laying
 pub mod Building
 pub mod Counting
 pub mod Ticking
+pub mod Resuming

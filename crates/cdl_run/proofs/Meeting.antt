@@ -73,7 +73,7 @@ seat {n = n} {bs} {ps} s i e =
     record { b = b.0; p = p.0; block_is = b.1; node_is = p.1; number = r; placed = s.placed.each (rank n i) i b.0 p.0 r b.1 p.1 }
 
 pub is_of : {B : Type 0} {m : Blocks B} {n : Net} {bs : List B} {ps : List Node} {actions : List Action} {kinds rows : List ValueType} {i : ℕ} {b : B} {p : Node} → IsSet m n bs ps actions kinds rows → (q : IsPlaced m n i b p) → IsOf n i q.t q.k q.v
-is_of {n = n} {i = i} s q = of_kind n i q.t q.k q.v s.checked.indexed s.formed.kinds q.there q.body
+is_of {n = n} {i = i} s q = of_kind n i q.t q.k q.v s.checked.indexed s.of_kinds q.there q.body
 
 pub windowed : {B : Type 0} {m : Blocks B} {n : Net} {bs : List B} {ps : List Node} {actions : List Action} {kinds rows : List ValueType} {i : ℕ} {b : B} {p : Node} → IsSet m n bs ps actions kinds rows → (q : IsPlaced m n i b p) → Windowed m n i q.t q.k q.v b p
 windowed {n = n} {i = i} s q = record {
@@ -139,7 +139,7 @@ meets {B} {m} {n} {bs} {ps} {actions} {kinds} {rows} {past} {u} {w} a x c h = go
         let an = answer_is m n i q.t q.k q.v t.b t.p past u.time w d in
         let hs = a.histories i q.t q.k q.v o in
         let ty : (ys : List ℤ) → answer (network_of n) past u.time (seen_by w) i ≡ Some ys → (k < length ys) × (is_none (word ys k) ≡ false) = λ ys e.
-        let v = answers_typed n i q.t q.k q.v past u.time w ys o (λ y l. a.set.formed.plain.each y l) a.typed hs.0 a.time hs.1 e in
+        let v = answers_typed n i q.t q.k q.v past u.time w ys o (λ y l. a.set.plain.each y l) a.typed hs.0 a.time hs.1 e in
         let sz = v.size in
         (omega (arith, sz, kn), value_some ((outputs q.k q.v).value_type k) (word ys k) (v.each k kn)) in
         ap (λ y. seen_by (λ r. y) 0) (at ∙ ap (λ y. out_word y k) (sym an)) ∙ out_value (answer (network_of n) past u.time (seen_by w) i) k ty

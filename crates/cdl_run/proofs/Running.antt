@@ -44,7 +44,7 @@ instance_of {n = n} {bs} s j b p hb hp =
     (i.0, i.1, s.placed.each j i.0 b p i.1 hb hp)
 
 -- its state
-state_is : {B : Type 0} {m : Blocks B} {n : Net} {i : ℕ} {b : B} {p : Node} (w : List ℤ) → (q : IsPlaced m n i b p) → state_of p w ≡ state_at n i w
+pub state_is : {B : Type 0} {m : Blocks B} {n : Net} {i : ℕ} {b : B} {p : Node} (w : List ℤ) → (q : IsPlaced m n i b p) → state_of p w ≡ state_at n i w
 state_is {n = n} {i} {p = p} w q =
     let a : p.width ≡ state_words q.k q.v = ap (λ (z : Node). z.width) q.node in
     let c : p.state ≡ state_place n i = ap (λ (z : Node). z.state) q.node in
@@ -52,7 +52,7 @@ state_is {n = n} {i} {p = p} w q =
     ap (λ z. take p.width (drop z w)) c ∙ ap (λ z. take z (drop (state_place n i) w)) (a ∙ sym d)
 
 -- a history of a kind is one of its block
-kind_history : {B : Type 0} {m : Blocks B} {n : Net} {i : ℕ} {b : B} {p : Node} (h : History) → (q : IsPlaced m n i b p) → IsHistory (inputs q.k q.v) (meaning q.k q.v) h → IsHistory (m.inputs b) (m.meaning b) h
+pub kind_history : {B : Type 0} {m : Blocks B} {n : Net} {i : ℕ} {b : B} {p : Node} (h : History) → (q : IsPlaced m n i b p) → IsHistory (inputs q.k q.v) (meaning q.k q.v) h → IsHistory (m.inputs b) (m.meaning b) h
 kind_history {m = m} {b = b} h q x = subst (λ (f : Meaning). IsHistory (m.inputs b) f h) (sym q.block.meaning) (subst (λ (f : Signature). IsHistory f (meaning q.k q.v) h) (sym q.block.inputs) x)
 
 block_history : {B : Type 0} {m : Blocks B} {n : Net} {i : ℕ} {b : B} {p : Node} (h : History) → (q : IsPlaced m n i b p) → IsHistory (m.inputs b) (m.meaning b) h → IsHistory (inputs q.k q.v) (meaning q.k q.v) h
@@ -93,7 +93,7 @@ inputs_known {n = n} {i} {p = p} w q o sz va =
     ∙ words_are w q.t.first m (omega (arith, l, c, sz))
     ∙ ap (λ z. window w z m) (sym a) ∙ ap (λ z. window w p.ins z) (sym d)
 
-by_body : (b : Body) (P : Body → Type 0) → P Composite → ((k : Kind) (v : List Array) → b ≡ Elementary k v → P (Elementary k v)) → P b
+pub by_body : (b : Body) (P : Body → Type 0) → P Composite → ((k : Kind) (v : List Array) → b ≡ Elementary k v → P (Elementary k v)) → P b
 by_body Composite P c e = c
 by_body (Elementary k v) P c e = e k v refl
 
@@ -139,7 +139,7 @@ pub faults : {B : Type 0} {m : Blocks B} {n : Net} {bs : List B} {ps : List Node
 faults {n = n} {ts = ts} u w j i r a e f vs g =
     let z = none_first n a.set.checked.unbroken in
     let c = net_closed n a.set.checked.indexed in
-    let p = planned_of (network_of n) c (net_shaped n a.set.checked.indexed) z.0 z.1 (direct_alone n a.set.checked.indexed a.set.formed.kinds) a.set.open_ended in
+    let p = planned_of (network_of n) c (net_shaped n a.set.checked.indexed) z.0 z.1 (direct_alone n a.set.checked.indexed a.set.of_kinds) a.set.open_ended in
     runs_off (network_of n) (suc (length (network_of n).elements)) ts r.values u (valuation w) i c p r.runs (meets a) (first (after [] ts r.values) u (word w) j i a.set e f) vs g
 
 -- before any tick

@@ -1,11 +1,15 @@
 -- What contracts see of a runner.
-use Rattle.std.specs.Prelude.{ℕ, ◌<◌, ◌≡◌, ℤ, List, Option, None, Some, slice_get}
+use Rattle.std.specs.Prelude.{ℕ, ◌<◌, ◌≡◌, ℤ, List, Option, None, Some, length, slice_get}
 use Rattle.cdl_kinds.specs.States.{IsSound}
+use Rattle.cdl_network.specs.Rules.{word_count}
 use Rattle.cdl_network.specs.Ticks.{Tick}
 use Rattle.cdl_connect.specs.declared.net.Net.{Net}
 use Rattle.cdl_connect.specs.declared.net.NetInstance.{NetInstance}
 use Rattle.cdl_connect.specs.declared.net.Body.{Body}
 use Rattle.cdl_connect.specs.declared.net.Body.TheVariants.{Composite, Elementary}
+use Rattle.cdl_connect.specs.Nets.{network_of}
+use Rattle.cdl_run.specs.declared.resume.ResumeFault.{ResumeFault}
+use Rattle.cdl_run.specs.declared.resume.ResumeFault.TheVariants.{Count, State, OutOfMemory}
 use Rattle.cdl_run.specs.Runs.{RunStands}
 use Rattle.cdl_run.specs.Words.{state_at}
 
@@ -32,3 +36,14 @@ pub record FirstUnsound (n : Net) (last : ℤ) (words : List ℤ) (i : ℕ) : Ty
   pub there : slice_get n.instances i ≡ Some t
   pub unsound : IsSoundState t.body (state_at n i words) last → ⊥
   pub first : (j : ℕ) (s : NetInstance) → j < i → slice_get n.instances j ≡ Some s → IsSoundState s.body (state_at n j words) last
+
+-- Words from which a runner may go on: as many as the net has, and each state sound for the time.
+pub record AreSound (n : Net) (last : ℤ) (words : List ℤ) : Type 0 where
+  pub size : length words ≡ word_count (network_of n)
+  pub states : (i : ℕ) (t : NetInstance) → slice_get n.instances i ≡ Some t → IsSoundState t.body (state_at n i words) last
+
+-- why no runner goes on from words: there are not as many as the net has; or a state is not sound
+abbrev pub IsCause : Net → ℤ → List ℤ → ResumeFault → Type 0
+IsCause n last words Count = length words ≡ word_count (network_of n) → ⊥
+IsCause n last words (State i) = (length words ≡ word_count (network_of n)) × FirstUnsound n last words i
+IsCause n last words OutOfMemory = Unit {0}

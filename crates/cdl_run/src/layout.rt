@@ -9,7 +9,7 @@ ghost use Rattle.cdl_network.specs.Lists.{has_some};
 ghost use Rattle.cdl_connect.specs.declared.net.Body.TheVariants.{Elementary as ElementaryBody};
 ghost use Rattle.cdl_connect.specs.Faults.{IsChecked};
 ghost use Rattle.cdl_connect.specs.Nets.{network_of};
-ghost use Rattle.cdl_connect.specs.WellFormed.{IsWellFormed};
+ghost use Rattle.cdl_connect.specs.WellFormed.{AreOfKinds};
 ghost use Rattle.cdl_run.specs.inner.AnyBlocks.{any_blocks};
 ghost use Rattle.cdl_schedule.specs.declared.steps.Step.{Step as StepOf};
 ghost use Rattle.cdl_schedule.specs.Passes.{IsStep};
@@ -40,7 +40,7 @@ pub(crate) struct Blocks {
 // How many inputs an elementary instance has: they are the first of its elements.
 fn input_count(net: &Net, _i: usize, instance: &NetInstance) -> usize
     requires checked { IsChecked net.now }
-    requires formed { IsWellFormed net.now }
+    requires kinds { AreOfKinds net.now }
     requires there { slice_get net.now.instances _i ≡ Some instance.now }
     ensures count { (k : KindOf) (v : List Array) → instance.now.body ≡ ElementaryBody k v → result ≡ (inputs k v).count }
     ensures few { result ≤ instance.now.count }
@@ -66,7 +66,7 @@ fn node(
     state: usize,
 ) -> Node
     requires checked { IsChecked net.now }
-    requires formed { IsWellFormed net.now }
+    requires kinds { AreOfKinds net.now }
     requires there { slice_get net.now.instances _i ≡ Some instance.now }
     requires body { instance.now.body ≡ ElementaryBody kind params.now }
     requires state { state ≡ state_place net.now _i }
@@ -111,7 +111,7 @@ fn add_instance(
     place: usize,
 ) -> Result<usize, OutOfMemory>
     requires checked { IsChecked net.now }
-    requires formed { IsWellFormed net.now }
+    requires kinds { AreOfKinds net.now }
     requires inside { i < length net.now.instances }
     requires built { AreBuilt any_blocks net.now i blocks.old.blocks.items blocks.old.nodes.items blocks.old.instances.items blocks.old.ranks.items }
     requires place { place ≡ state_place net.now i }
@@ -135,7 +135,7 @@ fn add_instance(
 // The blocks of a net, and how many words it has.
 pub(crate) fn blocks_in(alloc: Global, net: &Net) -> Result<(Blocks, usize), OutOfMemory>
     requires checked { IsChecked net.now }
-    requires formed { IsWellFormed net.now }
+    requires kinds { AreOfKinds net.now }
     ensures built { IfOk result (λ r. AreBuilt any_blocks net.now (length net.now.instances) r.0.blocks.items r.0.nodes.items r.0.instances.items r.0.ranks.items) }
     ensures size { IfOk result (λ r. r.1 ≡ state_place net.now (length net.now.instances)) }
 {

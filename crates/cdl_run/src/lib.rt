@@ -2,6 +2,8 @@
 #![tactic(auto)]
 
 mod layout;
+mod resume;
 mod runner;
 
+pub use resume::ResumeFault;
 pub use runner::{RangeFault, Runner};

@@ -1,22 +1,26 @@
 // The runner.
-ghost use Rattle.std.specs.Prelude.{◌≡◌, ◌+◌, ◌<◌, ◌≤◌, ◌++◌, ◌∷◌, ◌<ℤ◌, [], ℕ, ℤ, List, Err, IfErr, IfOk, OnOk, Some, get_or, length, negsuc, slice_get};
+ghost use Rattle.std.specs.Prelude.{◌≡◌, ◌+◌, ◌<◌, ◌≤◌, ◌++◌, ◌∷◌, ◌<ℤ◌, [], ℕ, ℤ, List, Err, IfErr, IfOk, IfSome, MatchResult, None, OnOk, Some, get_or, length, negsuc, slice_get};
 ghost use Rattle.std.specs.Option.{option_map};
 ghost use Rattle.cdl_values.specs.History.{IsTime, word};
 ghost use Rattle.cdl_network.specs.Rules.{word_count};
 ghost use Rattle.cdl_network.specs.Ticks.{Tick};
 ghost use Rattle.cdl_connect.specs.declared.net.NetInstance.{NetInstance as InstanceOf};
 ghost use Rattle.cdl_connect.specs.Nets.{network_of};
-ghost use Rattle.cdl_connect.specs.WellFormed.{IsWellFormed};
+ghost use Rattle.cdl_connect.specs.WellFormed.{AreOfKinds, ArePlain};
+ghost use Rattle.cdl_pass.specs.Net.{AllAt, net_of};
+ghost use Rattle.cdl_pass.specs.Windows.{state_of};
 ghost use Rattle.cdl_run.specs.inner.AnyBlocks.{any_blocks};
+ghost use Rattle.cdl_run.specs.declared.resume.ResumeFault.TheVariants.{OutOfMemory as no_memory};
 ghost use Rattle.cdl_run.specs.Words.{elementary_count, root_outputs, state_place};
-ghost use Rattle.cdl_run.specs.Runs.{HasFault, IsRow, tick_at};
-ghost use Rattle.cdl_run.specs.Running.{Stands};
+ghost use Rattle.cdl_run.specs.Runs.{HasFault, IsRow, RunStands, tick_at};
+ghost use Rattle.cdl_run.specs.Running.{AreSound, FirstUnsound, IsCause, Stands};
 ghost use Rattle.cdl_run.specs.inner.Ready.{IsFixed};
 
+use crate::ResumeFault;
 use crate::layout::{actions_in, blocks_in, outputs_in, rows_in, types_in};
 use cdl_blocks::AnyBlock;
 use cdl_kinds::Steps;
-use cdl_pass::{Action, Node, reset_all, tick_all};
+use cdl_pass::{Action, Node, first_unsound, reset_all, tick_all};
 use cdl_pool::Region;
 use cdl_schedule::Plan;
 use cdl_source::{OutOfMemory, Text};
@@ -72,7 +76,8 @@ impl Model for Runner {
 
 // What is made of a plan, and how many words it needs.
 fn parts_of(alloc: Global, plan: Plan) -> Result<(Parts, usize), OutOfMemory>
-    requires { IsWellFormed plan.net }
+    requires kinds { AreOfKinds plan.net }
+    requires plain { ArePlain plan.net }
     ensures net { IfOk result (λ f. f.0.plan ≡ plan) }
     ensures fixed { IfOk result (λ f. IsFixed any_blocks plan.net f.0.blocks.items f.0.nodes.items f.0.instances.items f.0.actions.items f.0.types.items f.0.rows.items f.0.outputs.items) }
     ensures size { IfOk result (λ f. f.1 ≡ state_place plan.net (length plan.net.instances)) }
@@ -96,10 +101,31 @@ fn parts_of(alloc: Global, plan: Plan) -> Result<(Parts, usize), OutOfMemory>
     Ok((parts, size))
 }
 
+// The first elementary instance in preorder whose state can stand for no ticks up to that time.
+fn first_unsound_in(parts: &Parts, words: &[i64], last: i64) -> Option<u32>
+    requires fixed { IsFixed any_blocks parts.now.plan.net parts.now.blocks.items parts.now.nodes.items parts.now.instances.items parts.now.actions.items parts.now.types.items parts.now.rows.items parts.now.outputs.items }
+    requires size { length words.now ≡ state_place parts.now.plan.net (length parts.now.plan.net.instances) }
+    ensures first { IfSome result (FirstUnsound parts.now.plan.net last words.now) }
+    ensures sound { result ≡ None → AllAt (net_of parts.now.blocks.items parts.now.nodes.items parts.now.actions.items parts.now.types.items parts.now.rows.items) (λ j b p. any_blocks.sound b (state_of p words.now) last) }
+    ensures standing { (ts : List Tick) → RunStands parts.now.plan.net ts last words.now → result ≡ None }
+{
+    let block = first_unsound(
+        &parts.blocks,
+        &parts.nodes,
+        &parts.actions,
+        &parts.types,
+        &parts.rows,
+        words,
+        last,
+    )?;
+    Some(parts.instances[block])
+}
+
 impl Runner {
     /// A runner before its first tick. It takes all memory of the run.
     pub fn start(alloc: Global, plan: Plan) -> Result<Runner, OutOfMemory>
-        requires { IsWellFormed plan.net }
+        requires kinds { AreOfKinds plan.net }
+        requires plain { ArePlain plan.net }
         ensures net { IfOk result (λ r. r.net ≡ plan.net) }
         ensures stands { IfOk result (λ r. Stands r []) }
         ensures size { IfOk result (λ r. length r.words ≡ word_count (network_of plan.net)) }
@@ -118,6 +144,40 @@ impl Runner {
             parts,
             region,
             last: -1,
+            fault: None,
+        })
+    }
+
+    /// A runner that goes on from the words of another, saved after a tick at the time `last`, or before any where it is -1: it stands
+    /// for the ticks that the words stand for. It takes all memory of the run.
+    /// Count: there are not as many words as the net has. Else State: the state words of an elementary instance are not sound for
+    /// that time, and it is the first such in preorder. Words that stand for some ticks are never refused so.
+    pub fn resume(
+        alloc: Global,
+        plan: Plan,
+        last: i64,
+        words: &[i64],
+    ) -> Result<Runner, ResumeFault>
+        requires kinds { AreOfKinds plan.net }
+        requires plain { ArePlain plan.net }
+        ensures ok { IfOk result (λ r. r ≡ record { net = plan.net; words = words.now; last = last; fault = None }) }
+        ensures sound { OnOk result (AreSound plan.net last words.now) }
+        ensures refused { IfErr result (IsCause plan.net last words.now) }
+        ensures stands { (ts : List Tick) → length words.now ≡ word_count (network_of plan.net) → RunStands plan.net ts last words.now → MatchResult result (λ r. Stands r ts) (λ f. f ≡ no_memory) }
+    {
+        let (parts, size) = parts_of(alloc, plan)?;
+        if words.len() != size {
+            return Err(ResumeFault::Count);
+        }
+        if let Some(instance) = first_unsound_in(&parts, words, last) {
+            return Err(ResumeFault::State { instance });
+        }
+        let mut region = Region::new(alloc, size)?;
+        region.all_mut().copy_from_slice(words);
+        Ok(Runner {
+            parts,
+            region,
+            last,
             fault: None,
         })
     }

@@ -6,7 +6,7 @@ use Rattle.cdl_network.specs.Ticks.{Seen, history}
 use Rattle.cdl_connect.specs.declared.net.Net.{Net}
 use Rattle.cdl_connect.specs.Faults.{IsChecked}
 use Rattle.cdl_connect.specs.Nets.{network_of}
-use Rattle.cdl_connect.specs.WellFormed.{IsWellFormed}
+use Rattle.cdl_connect.specs.WellFormed.{AreOfKinds, ArePlain}
 use Rattle.cdl_pass.specs.declared.net.Action.{Action}
 use Rattle.cdl_pass.specs.declared.net.Node.{Node}
 use Rattle.cdl_pass.specs.Net.{Blocks}
@@ -16,10 +16,11 @@ use Rattle.cdl_schedule.specs.Passes.{IsPass}
 use Rattle.cdl_run.specs.Words.{elementary_below}
 use Rattle.cdl_run.specs.inner.Laid.{ArePlaced, action_of, element_types, row_types}
 
--- the lists are those of a checked, well-formed net without a loop
+-- the lists are those of a checked net without a loop, whose instances are of their kinds and whose elements are plain
 pub record IsSet {B : Type 0} (m : Blocks B) (n : Net) (bs : List B) (ps : List Node) (actions : List Action) (kinds rows : List ValueType) : Type 0 where
   pub checked : IsChecked n
-  pub formed : IsWellFormed n
+  pub of_kinds : AreOfKinds n
+  pub plain : ArePlain n
   pub open_ended : NoLoop (network_of n)
   pub placed : ArePlaced m n (length n.instances) bs ps
   pub steps : List Step

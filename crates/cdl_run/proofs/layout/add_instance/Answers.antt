@@ -11,7 +11,7 @@ use Rattle.cdl_run.proofs.layout.add_instance.Goals as goal
 pub block-requires : goal.block-requires
 block-requires c =
     let s = read_is c.items.result.now c.args.net.now.instances c.args.i c.index-items-i.result c.items.ensures c.requires.inside c.index-items-i.is in
-    (of_kind c.args.net.now c.args.i c.index-items-i.result c.in-Elementary.kind c.in-Elementary.params c.requires.checked.indexed c.requires.formed.kinds s c.in-Elementary.is).ports.keeps
+    (of_kind c.args.net.now c.args.i c.index-items-i.result c.in-Elementary.kind c.in-Elementary.params c.requires.checked.indexed c.requires.kinds s c.in-Elementary.is).ports.keeps
 
 pub returns-in-Composite-clause-built : goal.returns-in-Composite-clause-built
 returns-in-Composite-clause-built c =
