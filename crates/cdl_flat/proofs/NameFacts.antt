@@ -1,15 +1,14 @@
 -- What the names of a block stand for.
-use Rattle.std.proofs.Common.{◌≡◌, ◌∙◌, ◌++◌, ℕ, true, List, [], ◌∷◌, Some, None, Vec, refl, sym, ap, inl, inr}
-use Rattle.std.specs.Prelude.{if◌then◌else◌}
-use Rattle.std.specs.declared.alloc.Global.{Global}
-use Rattle.std.specs.Map.{lookup}
+use Rattle.std.proofs.Common.{◌≡◌, ◌+◌, ◌∙◌, ◌++◌, ℕ, suc, true, List, [], ◌∷◌, Some, None, map, refl, sym, ap, inl, inr, arith}
+use Rattle.std.specs.Prelude.{if◌then◌else◌, slice_get}
+use Rattle.std.specs.Option.{option_map}
 use Rattle.std.specs.Str.{bytes_eq}
 use Rattle.std.proofs.lemmas.Bool.{cases_Bool, false≢true}
-use Rattle.std.proofs.lemmas.List.{map-append}
 use Rattle.std.proofs.lemmas.Slice.Eq.{bytes_eq-Decides}
+use Rattle.cdl_scopes.specs.Lookup.{first_named_from, first_named}
+use Rattle.cdl_flat.specs.declared.part.Named.{Named}
 use Rattle.cdl_flat.specs.declared.part.Place.{Place}
-use Rattle.cdl_flat.specs.Blocks.{Named, place_among}
-use Rattle.cdl_flat.specs.Names.{named, names_in}
+use Rattle.cdl_flat.specs.Blocks.{place_among}
 
 pub same_text : (a b : List ℕ) → bytes_eq a b ≡ true → a ≡ b
 same_text a b h = (bytes_eq-Decides a b).0 h
@@ -17,12 +16,39 @@ same_text a b h = (bytes_eq-Decides a b).0 h
 pub text_self : (a : List ℕ) → bytes_eq a a ≡ true
 text_self a = (bytes_eq-Decides a a).1 refl
 
-pub lookup_place : (name : List ℕ) (es : List (Vec ℕ Global × Place)) → lookup (λ (k : Vec ℕ Global). bytes_eq name k.items) es ≡ place_among (names_in es) name
-lookup_place name [] = refl
-lookup_place name (e ∷ es) = elim (cases_Bool (bytes_eq name e.0.items)) [ inl hit ↦ rw hit refl | inr miss ↦ rw miss (lookup_place name es) ]
+-- What the first of a name among names stands for, with the names numbered from i on.
+first-from : (ns : List Named) (x : List ℕ) (i k : ℕ) → first_named_from i x (map (λ n. n.name) ns) ≡ Some k
+    → (j : ℕ) × (k ≡ i + j) × (option_map (λ n. n.place) (slice_get ns j) ≡ place_among ns x)
+first-from [] x i k h = absurd (cc)
+first-from (n ∷ ns) x i k h =
+    elim (cases_Bool (bytes_eq x n.name)) [
+      | inl hit ↦
+          let e : Some i ≡ Some k = rw hit at h in
+          let f : i ≡ k = cc (e) in
+          (0, omega arith, rw hit refl)
+      | inr miss ↦
+          let rest : first_named_from (i + 1) x (map (λ n. n.name) ns) ≡ Some k = rw miss at h in
+          let r = first-from ns x (i + 1) k rest in
+          let number : k ≡ i + 1 + r.0 = r.1 in
+          (suc r.0, omega arith, rw miss r.2)
+    ]
 
-pub names-push : (es : List (Vec ℕ Global × Place)) (key : Vec ℕ Global) (name : List ℕ) (p : Place) → key.items ≡ name → names_in (es ++ (key, p) ∷ []) ≡ names_in es ++ record { name = name; place = p } ∷ []
-names-push es key name p e = map-append named es ((key, p) ∷ []) ∙ ap (λ (n : List ℕ). names_in es ++ record { name = n; place = p } ∷ []) e
+pub first-place : (ns : List Named) (x : List ℕ) (k : ℕ) → first_named x (map (λ n. n.name) ns) ≡ Some k → option_map (λ n. n.place) (slice_get ns k) ≡ place_among ns x
+first-place ns x k h =
+    let r = first-from ns x 0 k h in
+    let number : k ≡ r.0 = r.1 ∙ omega arith in
+    ap (λ (i : ℕ). option_map (λ (n : Named). n.place) (slice_get ns i)) number ∙ r.2
+
+none-from : (ns : List Named) (x : List ℕ) (i : ℕ) → first_named_from i x (map (λ n. n.name) ns) ≡ None → place_among ns x ≡ None
+none-from [] x i h = refl
+none-from (n ∷ ns) x i h =
+    elim (cases_Bool (bytes_eq x n.name)) [
+      | inl hit ↦ let e : Some i ≡ None = rw hit at h in absurd (cc)
+      | inr miss ↦ let rest : first_named_from (i + 1) x (map (λ n. n.name) ns) ≡ None = rw miss at h in rw miss (none-from ns x (i + 1) rest)
+    ]
+
+pub first-none : (ns : List Named) (x : List ℕ) → first_named x (map (λ n. n.name) ns) ≡ None → place_among ns x ≡ None
+first-none ns x h = none-from ns x 0 h
 
 -- A name that stood for nothing, put last.
 pub place-push : (ns : List Named) (name : List ℕ) (p : Place) (other : List ℕ) → place_among ns name ≡ None

@@ -6,15 +6,11 @@ use Rattle.cdl_tree.specs.declared.class.Item.{Item}
 use Rattle.cdl_tree.specs.declared.class.Connect.{Connect}
 use Rattle.cdl_tree.specs.declared.class.Ref.{Ref}
 use Rattle.cdl_flat.specs.declared.part.Component.{Component}
+use Rattle.cdl_flat.specs.declared.part.Named.{Named}
 use Rattle.cdl_flat.specs.declared.part.Part.{Part}
 use Rattle.cdl_flat.specs.declared.part.Part.TheVariants as part
 use Rattle.cdl_flat.specs.declared.part.Place.{Place}
 use Rattle.cdl_flat.specs.declared.part.Place.TheVariants as place
-
--- a declared name, and what it stands for
-pub record Named : Type 0 where
-  pub name : List ℕ
-  pub place : Place
 
 -- the inputs and outputs with their types, the components with their kinds, each in the order of declaration, and the names
 pub record Declarations : Type 0 where

@@ -1,7 +1,6 @@
 pub mod Lists
 pub mod PlainKinds
 pub mod Blocks
-pub mod Names
 pub mod Ends
 pub mod Flat
 pub mod Solution

@@ -1,12 +1,12 @@
 // What a block declares.
-ghost use Rattle.std.specs.Prelude.{◌≡◌, ◌++◌, ◌∷◌, [], true, None, IfOk, IfSome, length, slice_get};
+ghost use Rattle.std.specs.Prelude.{◌≡◌, true, IfOk, IfSome, length, slice_get};
 ghost use Rattle.std.specs.Option.{option_map};
-ghost use Rattle.cdl_flat.specs.Blocks.{nothing_declared, place_among, place_of, with_part};
+ghost use Rattle.cdl_flat.specs.Blocks.{nothing_declared, place_of, with_part};
 ghost use Rattle.cdl_flat.specs.Declaring as spec;
 ghost use Rattle.cdl_flat.specs.Lists.{Each};
-ghost use Rattle.cdl_flat.specs.Names.{names_in};
 ghost use Rattle.cdl_flat.specs.PlainKinds.{is_plain_kind};
 
+use crate::names::Names;
 use crate::part::{Component, Part, Place};
 use crate::plain_kind::is_plain_kind;
 use cdl_kinds::Kind;
@@ -14,7 +14,6 @@ use cdl_source::{List, OutOfMemory, Text};
 use cdl_table::Column;
 use cdl_tree::{Item, Prefix};
 use cdl_values::ValueType;
-use indexmap::IndexMap;
 use std::alloc::Global;
 use std::marker::Model;
 
@@ -26,19 +25,18 @@ pub(crate) struct Declared {
     inputs: List<Column>,
     outputs: List<Column>,
     components: List<Component>,
-    places: IndexMap<Vec<u8>, Place>,
+    names: Names,
 }
 
 impl Model for Declared {
     ghost use Rattle.std.specs.Prelude.{◌≡◌, true};
     ghost use Rattle.cdl_flat.specs.Blocks.{Declarations};
     ghost use Rattle.cdl_flat.specs.Lists.{Each};
-    ghost use Rattle.cdl_flat.specs.Names.{names_in};
     ghost use Rattle.cdl_flat.specs.PlainKinds.{is_plain_kind};
 
     ghost Value = { Declarations };
 
-    ghost view = { λ d. record { inputs = d.inputs; outputs = d.outputs; components = d.components; names = names_in d.places.entries } };
+    ghost view = { λ d. record { inputs = d.inputs; outputs = d.outputs; components = d.components; names = d.names } };
 
     ghost invariant = { λ d. Each (λ c. is_plain_kind c.kind ≡ true) d.components };
 }
@@ -61,21 +59,6 @@ pub(crate) fn copy_columns(alloc: Global, columns: &[Column]) -> Result<List<Col
     Ok(copies)
 }
 
-// Gives a name that stands for nothing its place.
-fn add_name(
-    alloc: Global,
-    mut places: IndexMap<Vec<u8>, Place>,
-    name: &[u8],
-    place: Place,
-) -> Result<IndexMap<Vec<u8>, Place>, OutOfMemory>
-    requires { place_among (names_in places.entries) name.now ≡ None }
-    ensures { IfOk result (λ m. names_in m.entries ≡ names_in places.entries ++ record { name = name.now; place = place } ∷ []) }
-{
-    let key = Vec::from_slice(alloc, name)?;
-    places.insert(key, place)?;
-    Ok(places)
-}
-
 impl Declared {
     /// Nothing is declared. It takes no memory.
     pub(crate) fn new(alloc: Global) -> Declared
@@ -86,20 +69,18 @@ impl Declared {
             inputs: List::new(alloc),
             outputs: List::new(alloc),
             components: List::new(alloc),
-            places: IndexMap::new(alloc),
+            names: Names::new(alloc),
         }
     }
 
     /// What the name stands for.
-    #[tactic(auto, using(crate::proofs::NameFacts::lookup_place))]
     pub(crate) fn find(&self, name: &[u8]) -> Option<Place>
         ensures { result ≡ place_of self.now name.now }
     {
-        self.places.get(name).copied()
+        self.names.find(name)
     }
 
     fn with_input(self, name: &[u8], value_type: ValueType) -> Result<Declared, OutOfMemory>
-        requires { place_of self name.now ≡ None }
         ensures { IfOk result (λ d. d ≡ with_part self name.now (Part.Input value_type)) }
     {
         let Declared {
@@ -107,22 +88,21 @@ impl Declared {
             mut inputs,
             outputs,
             components,
-            places,
+            names,
         } = self;
         let number = inputs.items().len();
-        let places = add_name(alloc, places, name, Place::Input(number))?;
+        let names = names.with(alloc, name, Place::Input(number))?;
         inputs.push(column(alloc, name, value_type)?)?;
         Ok(Declared {
             alloc,
             inputs,
             outputs,
             components,
-            places,
+            names,
         })
     }
 
     fn with_output(self, name: &[u8], value_type: ValueType) -> Result<Declared, OutOfMemory>
-        requires { place_of self name.now ≡ None }
         ensures { IfOk result (λ d. d ≡ with_part self name.now (Part.Output value_type)) }
     {
         let Declared {
@@ -130,23 +110,22 @@ impl Declared {
             inputs,
             mut outputs,
             components,
-            places,
+            names,
         } = self;
         let number = outputs.items().len();
-        let places = add_name(alloc, places, name, Place::Output(number))?;
+        let names = names.with(alloc, name, Place::Output(number))?;
         outputs.push(column(alloc, name, value_type)?)?;
         Ok(Declared {
             alloc,
             inputs,
             outputs,
             components,
-            places,
+            names,
         })
     }
 
     fn with_component(self, name: &[u8], kind: Kind) -> Result<Declared, OutOfMemory>
-        requires free { place_of self name.now ≡ None }
-        requires simple { spec.is_simple (Part.Component kind) ≡ true }
+        requires { spec.is_simple (Part.Component kind) ≡ true }
         ensures { IfOk result (λ d. d ≡ with_part self name.now (Part.Component kind)) }
     {
         let Declared {
@@ -154,10 +133,10 @@ impl Declared {
             inputs,
             outputs,
             mut components,
-            places,
+            names,
         } = self;
         let number = components.items().len();
-        let places = add_name(alloc, places, name, Place::Component(number))?;
+        let names = names.with(alloc, name, Place::Component(number))?;
         let name = Text::from_bytes(alloc, name)?;
         components.push(Component { name, kind })?;
         Ok(Declared {
@@ -165,13 +144,12 @@ impl Declared {
             inputs,
             outputs,
             components,
-            places,
+            names,
         })
     }
 
     fn with_part(self, name: &[u8], part: Part) -> Result<Declared, OutOfMemory>
-        requires free { place_of self name.now ≡ None }
-        requires simple { spec.is_simple part ≡ true }
+        requires { spec.is_simple part ≡ true }
         ensures { IfOk result (λ d. d ≡ with_part self name.now part) }
     {
         match part {

@@ -7,6 +7,7 @@ mod ends;
 mod flat;
 mod joins;
 mod laws;
+mod names;
 mod part;
 mod plain_kind;
 mod runner;

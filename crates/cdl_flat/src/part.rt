@@ -29,6 +29,13 @@ pub enum Place {
     Component(usize),
 }
 
+/// A declared name, and what it stands for.
+#[derive(Debug, Drop)]
+pub struct Named {
+    pub name: Text,
+    pub place: Place,
+}
+
 /// What a reference stands for, and the type of its values.
 #[derive(Clone, Copy, Debug, PartialEq, Eq)]
 pub enum End {
