@@ -64,7 +64,7 @@ names_paired nin (r ∷ rs) [] f = absurd f
 names_paired nin (r ∷ rs) (a ∷ v) f = ap (λ l. r.name ∷ l) (names_paired nin rs v f.1)
 
 -- no text stands twice
-abbrev are_apart : List (List ℕ) → Bool
+abbrev pub are_apart : List (List ℕ) → Bool
 are_apart [] = true
 are_apart (x ∷ xs) = not (list_any (bytes_eq x) xs) && are_apart xs
 
@@ -77,7 +77,7 @@ found x (y ∷ ys) (inr i) = rw (found x ys i) (either (bytes_eq x y))
     either true = refl
     either false = refl
 
-apart_tested : (xs : List (List ℕ)) → are_apart xs ≡ true → Apart xs
+pub apart_tested : (xs : List (List ℕ)) → are_apart xs ≡ true → Apart xs
 apart_tested [] h = tt
 apart_tested (x ∷ xs) h =
     let b = and_parts (not (list_any (bytes_eq x) xs)) (are_apart xs) h in

@@ -1,0 +1,7 @@
+pub mod Tests
+pub mod Placed
+pub mod Steps
+pub mod Inverters
+pub mod Negation
+pub mod Pair
+pub mod Spoiled
