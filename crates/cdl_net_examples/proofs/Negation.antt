@@ -1,5 +1,5 @@
 -- The net of a block that negates its input.
-use Rattle.std.proofs.Common.{ℕ, ◌<◌, ◌≡◌, refl, List, [], ◌∷◌, codes, length, arith, None}
+use Rattle.std.proofs.Common.{ℕ, ◌≡◌, refl, List, [], ◌∷◌, codes, None}
 use Rattle.std.proofs.lemmas.Bool.{false≢true}
 use Rattle.cdl_network.specs.Rules.{element_fault, wire_fault}
 use Rattle.cdl_connect.specs.declared.net.RawWire.{RawWire}

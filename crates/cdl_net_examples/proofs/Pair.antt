@@ -1,11 +1,11 @@
 -- The net of a block that negates two inputs.
-use Rattle.std.proofs.Common.{ℕ, ◌<◌, ◌≡◌, refl, List, [], ◌∷◌, codes, length, arith, None}
+use Rattle.std.proofs.Common.{ℕ, ◌≡◌, refl, List, [], ◌∷◌, codes, arith, None}
 use Rattle.std.proofs.lemmas.Bool.{false≢true}
 use Rattle.cdl_network.specs.Rules.{element_fault, wire_fault}
 use Rattle.cdl_connect.specs.declared.net.RawWire.{RawWire}
 use Rattle.cdl_connect.specs.Faults.{IsUnbroken}
 use Rattle.cdl_connect.specs.Nets.{network_of, wire_in}
-use Rattle.cdl_connect.specs.Paths.{AreSizes, ArrayOf, Row, Single, Sizes, Step}
+use Rattle.cdl_connect.specs.Paths.{AreSizes, ArrayOf, Row, Single, Step}
 use Rattle.cdl_connect.specs.WellFormed.{ArePaths, HasSteps, IsWellFormed}
 use Rattle.cxf_graph.specs.Document.{document}
 use Rattle.cxf_graph.specs.Reading.{IsGraphOf}
@@ -62,10 +62,19 @@ part_step = step_at (single [] ∷ indexed (codes "n") 1 ∷ indexed (codes "n")
 
 steps : AreSteps pair element_step
 steps = record {
-  texts =
-      (indexed_text (codes "u") 1 u_named (omega arith), (indexed_text (codes "u") 2 u_named (omega arith),
-      (indexed_text (codes "y") 1 y_named (omega arith), (indexed_text (codes "y") 2 y_named (omega arith),
-      (single_text (codes "u") u_named, (single_text (codes "y") y_named, (single_text (codes "u") u_named, (single_text (codes "y") y_named, tt))))))));
+  texts = (
+    indexed_text (codes "u") 1 u_named (omega arith),
+    (
+      indexed_text (codes "u") 2 u_named (omega arith),
+      (
+        indexed_text (codes "y") 1 y_named (omega arith),
+        (
+          indexed_text (codes "y") 2 y_named (omega arith),
+          (single_text (codes "u") u_named, (single_text (codes "y") y_named, (single_text (codes "u") u_named, (single_text (codes "y") y_named, tt)))),
+        ),
+      ),
+    ),
+  );
   types = (refl, (refl, (refl, (refl, (refl, (refl, (refl, (refl, tt))))))));
   inputs = (refl, (refl, (refl, (refl, (refl, (refl, (refl, (refl, tt))))))));
 }

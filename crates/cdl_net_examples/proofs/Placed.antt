@@ -1,15 +1,15 @@
 -- The sentences of a well-formed net that a test decides, from the tests.
-use Rattle.std.proofs.Common.{ℕ, zero, suc, ◌+◌, ◌-◌, ◌<◌, ◌≤◌, ◌≡◌, ◌==◌, ◌&&◌, ◌||◌, refl, sym, ap, ◌∙◌, Bool, true, false, not, List, [], ◌∷◌, length, Option, Some, None, slice_get, arith}
-use Rattle.std.specs.Prelude.{nat_le, nat_lt, IsUtf8}
+use Rattle.std.proofs.Common.{ℕ, suc, ◌+◌, ◌-◌, ◌≡◌, ◌==◌, ◌&&◌, ◌||◌, refl, sym, ap, ◌∙◌, Bool, true, false, not, List, [], ◌∷◌, length, Option, Some, None, slice_get, arith}
+use Rattle.std.specs.Prelude.{nat_le, nat_lt}
 use Rattle.std.specs.List.{list_all, list_any}
-use Rattle.std.proofs.lemmas.Bool.{and_parts, leb-true, ltb-true, le-leb, lt-ltb, true≢false, false≢true}
+use Rattle.std.proofs.lemmas.Bool.{leb-true, ltb-true, le-leb, false≢true}
 use Rattle.cdl_source.specs.declared.limits.TheConstants.{LONGEST_UNIT, MOST_ELEMENTS, MOST_INSTANCES, MOST_STEPS, MOST_WIRES}
 use Rattle.cdl_network.specs.Rules.{is_empty, is_real, is_some_same}
 use Rattle.cdl_connect.specs.declared.net.Net.{Net}
 use Rattle.cdl_connect.specs.declared.net.NetInstance.{NetInstance}
 use Rattle.cdl_connect.specs.declared.net.RawWire.{RawWire}
 use Rattle.cdl_connect.specs.Nets.{element, is_elementary, parent_of}
-use Rattle.cdl_connect.specs.WellFormed.{AreByScope, AreComposite, AreNear, AreNumbers, AreOfKinds, ArePaths, ArePlain, AreUnits, AreWindows, FitsBody, IsPreorder, IsWellFormed, IsWithinLimits, is_near, is_plain, lineage, parent_at}
+use Rattle.cdl_connect.specs.WellFormed.{AreByScope, AreComposite, AreNear, AreNumbers, ArePaths, ArePlain, AreUnits, AreWindows, FitsBody, IsPreorder, IsWellFormed, IsWithinLimits, is_near, is_plain, lineage, parent_at}
 use Rattle.cxf_graph.proofs.Texts.{is_low, low_utf8}
 use Rattle.cdl_net_examples.proofs.Tests.{EachAt, all_at, all_below, at_place, below, each_at}
 

@@ -1,5 +1,5 @@
 -- The texts of steps, and the steps of an instance of a net whose elements are Boolean, each input a `u`.
-use Rattle.std.proofs.Common.{ℕ, ◌+◌, ◌<◌, ◌≡◌, ◌==◌, refl, sym, ap, ◌∙◌, true, List, [], ◌∷◌, ◌++◌, codes, length, map, filter, arith}
+use Rattle.std.proofs.Common.{ℕ, ◌+◌, ◌<◌, ◌≡◌, ◌==◌, refl, sym, ap, ◌∙◌, true, List, [], ◌∷◌, ◌++◌, codes, length, map, filter}
 use Rattle.std.specs.Prelude.{IsTrue, bytes_eq, slice_index_or}
 use Rattle.std.proofs.lemmas.List.{append-nil}
 use Rattle.cdl_source.specs.Identifiers.{is_identifier, is_keyword, keywords}
@@ -7,7 +7,7 @@ use Rattle.cdl_values.specs.declared.value.ValueType.TheVariants.{Boolean}
 use Rattle.cdl_network.specs.Lists.{numbers}
 use Rattle.cdl_connect.specs.declared.net.Net.{Net}
 use Rattle.cdl_connect.specs.Nets.{element}
-use Rattle.cdl_connect.specs.Paths.{ArrayOf, AreArrays, AreSizes, IsStepText, Sizes, Single, Step, digit, extended, none, one}
+use Rattle.cdl_connect.specs.Paths.{ArrayOf, AreArrays, IsStepText, Sizes, Step, digit, extended, none, one}
 use Rattle.cdl_connect.specs.WellFormed.{HasSteps, is_part_of, path_of}
 use Rattle.cdl_net_examples.proofs.Tests.{EachBelow, each_below}
 

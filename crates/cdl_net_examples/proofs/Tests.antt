@@ -1,5 +1,5 @@
 -- What holds of each number below a bound, and of each item of a list: from tests that compute, or from a proof for each.
-use Rattle.std.proofs.Common.{ℕ, zero, suc, ◌<◌, ◌≡◌, ◌&&◌, refl, sym, ap, subst, inl, inr, Bool, true, false, List, [], ◌∷◌, Some, None, slice_get, arith}
+use Rattle.std.proofs.Common.{ℕ, zero, suc, ◌<◌, ◌≡◌, ◌&&◌, sym, subst, inl, inr, Bool, true, List, [], ◌∷◌, Some, slice_get, arith}
 use Rattle.std.proofs.lemmas.Bool.{and_parts}
 use Rattle.cdl_network.specs.Lists.{In}
 

@@ -1,6 +1,6 @@
 -- Boolean connector elements, composites, blocks of the kind Logical.Not, and wires in the root.
-use Rattle.std.specs.Prelude.{ℕ, true, false, List, [], Some, None, codes}
 use Prim.Native.String.{String}
+use Rattle.std.specs.Prelude.{ℕ, true, false, [], Some, None, codes}
 use Rattle.cdl_values.specs.declared.value.ValueType.TheVariants.{Boolean}
 use Rattle.cdl_kinds.specs.declared.kind.Kind.TheVariants.{LogicalNot}
 use Rattle.cdl_connect.specs.declared.net.NetInstance.{NetInstance}

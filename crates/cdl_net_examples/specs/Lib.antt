@@ -1,3 +1,4 @@
 pub mod Elements
 pub mod Negation
 pub mod Pair
+pub mod Graph

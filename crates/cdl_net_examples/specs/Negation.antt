@@ -25,3 +25,11 @@ with_a_point = record {
   elements = negation.elements;
   wires = negation.wires;
 }
+
+-- the same, but the part is the second of an array that has no first
+abbrev pub with_a_gap : Net
+with_a_gap = record {
+  instances = root 2 ∷ inverter "#n[2]" 2 ∷ [];
+  elements = negation.elements;
+  wires = negation.wires;
+}
