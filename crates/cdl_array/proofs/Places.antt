@@ -72,19 +72,22 @@ one_up n = omega arith
 pub cut_product : (n r m : ℕ) → min (min r m * n) m ≡ min (n * r) m
 cut_product zero r m = grind arith
 cut_product (suc n) r m = elim (cases_lt m r) [
-    inl lt ↦ (let cut : min r m ≡ m = omega arith in let more : m ≤ m * suc n = omega (arith, mul-le-mul_left m (one_up n)) in let most : r ≤ suc n * r = omega (arith, mul-le-mul_left r (one_up n)) in rw cut (omega (arith, more, most, lt)))
-  | inr le ↦ (let whole : min r m ≡ r = omega arith in rw (whole, mul_comm r (suc n)) refl) ]
+  | inl lt ↦ (let cut : min r m ≡ m = omega arith in let more : m ≤ m * suc n = omega (arith, mul-le-mul_left m (one_up n)) in let most : r ≤ suc n * r = omega (arith, mul-le-mul_left r (one_up n)) in rw cut (omega (arith, more, most, lt)))
+  | inr le ↦ (let whole : min r m ≡ r = omega arith in rw (whole, mul_comm r (suc n)) refl)
+]
 
 -- so many values of a list that has fewer than it is cut off at
 take_cut : {X : Type 0} (xs : List X) (n m : ℕ) → length xs ≤ m → take (min n m) xs ≡ take n xs
 take_cut xs n m h = elim (cases_lt m n) [
-    inl lt ↦ (let cut : min n m ≡ m = omega arith in let most : length xs ≤ n = omega (arith, h) in rw (cut, take_all m xs h, take_all n xs most) refl)
-  | inr le ↦ (let whole : min n m ≡ n = omega arith in rw whole refl) ]
+  | inl lt ↦ (let cut : min n m ≡ m = omega arith in let most : length xs ≤ n = omega (arith, h) in rw (cut, take_all m xs h, take_all n xs most) refl)
+  | inr le ↦ (let whole : min n m ≡ n = omega arith in rw whole refl)
+]
 
 drop_cut : {X : Type 0} (xs : List X) (n m : ℕ) → length xs ≤ m → drop (min n m) xs ≡ drop n xs
 drop_cut xs n m h = elim (cases_lt m n) [
-    inl lt ↦ (let cut : min n m ≡ m = omega arith in let most : length xs ≤ n = omega (arith, h) in rw (cut, drop_all m xs h, drop_all n xs most) refl)
-  | inr le ↦ (let whole : min n m ≡ n = omega arith in rw whole refl) ]
+  | inl lt ↦ (let cut : min n m ≡ m = omega arith in let most : length xs ≤ n = omega (arith, h) in rw (cut, drop_all m xs h, drop_all n xs most) refl)
+  | inr le ↦ (let whole : min n m ≡ n = omega arith in rw whole refl)
+]
 
 -- a stretch of a list, by numbers that were cut off
 pub stretch_is : {X : Type 0} (xs : List X) (at c m : ℕ) → length xs ≤ m → take (min c m) (drop (min (min c m * at) m) xs) ≡ take (at * c + c - at * c) (drop (at * c) xs)
