@@ -1,13 +1,12 @@
 // Items and parts of arrays.
-ghost use Rattle.std.specs.Prelude.{◌≡◌, ◌≤◌, ◌+◌, ◌*◌, length, is_some, IfOk};
+ghost use Rattle.std.specs.Prelude.{◌≡◌, ◌≤◌, ◌+◌, ◌*◌, ◌-◌, ◌^◌, min, length, take, drop, is_some, IfOk};
 ghost use Rattle.std.specs.Option.{option_copied};
-ghost use Rattle.cdl_values.specs.Values.{IsArray, items_of};
+ghost use Rattle.cdl_values.specs.Values.{items_of};
 ghost use Rattle.cdl_array.specs.Outcomes.{Answers};
 ghost use Rattle.cdl_array.specs.Parts as spec;
 
 use crate::fault::EvalFault;
 use crate::scalars::scalar_of;
-use crate::sizes::items_of;
 use crate::types::copy_shape;
 use cdl_source::rules::{NO_VALUE, WRONG_SHAPE, WRONG_TYPE};
 use cdl_source::{List, OutOfMemory};
@@ -165,18 +164,53 @@ fn copy_values(alloc: Global, values: &[Value]) -> Result<List<Value>, OutOfMemo
     Ok(copy)
 }
 
-// Of values in stretches of so many, the one at that place.
-fn stretch(values: &[Value], at: usize, count: usize) -> &[Value]
-    requires { at * count + count ≤ length values.now }
-    ensures { result.now ≡ spec.stretch values.now at count }
+// The number of items of a shape, or the largest number where they are more.
+#[tactic(auto, using(crate::proofs::Places::cut_product))]
+fn most_items(shape: &[u32]) -> usize
+    ensures { result ≡ min (items_of shape.now) (2 ^ 64 - 1) }
 {
-    &values[at * count..at * count + count]
+    match shape {
+        [] => 1,
+        [size, rest @ ..] => most_items(rest).saturating_mul(*size as usize),
+    }
+}
+
+// The values behind so many.
+#[tactic(auto, using(std::proofs::lemmas::List::drop_all))]
+fn beyond(values: &[Value], count: usize) -> &[Value]
+    ensures { result.now ≡ drop count values.now }
+{
+    if count < values.len() {
+        &values[count..]
+    } else {
+        &[]
+    }
+}
+
+// As many values, or all where there are fewer.
+#[tactic(auto, using(std::proofs::lemmas::List::take_all))]
+fn at_most(values: &[Value], count: usize) -> &[Value]
+    ensures { result.now ≡ take count values.now }
+{
+    if count < values.len() {
+        &values[..count]
+    } else {
+        values
+    }
+}
+
+// Of values in stretches of as many as a shape has places, the one at that place: what there is of it.
+#[tactic(auto, using(crate::proofs::Places::stretch_is))]
+fn stretch<'v>(values: &'v [Value], at: usize, shape: &[u32]) -> &'v [Value]
+    ensures { result.now ≡ spec.stretch values.now at (items_of shape.now) }
+{
+    let count = most_items(shape);
+    at_most(beyond(values, count.saturating_mul(at)), count)
 }
 
 /// The part of an array that its first indices choose: what stands there in the other dimensions. All of the array for none.
 /// C25: they are not indices, from 1, of its first dimensions.
 pub fn part(alloc: Global, array: &Array, indices: &[u32]) -> Result<Array, EvalFault>
-    requires { IsArray array.now }
     ensures { Answers (spec.part array.now indices.now) result }
 {
     let shape = array.shape.items();
@@ -187,7 +221,7 @@ pub fn part(alloc: Global, array: &Array, indices: &[u32]) -> Result<Array, Eval
     let Some(at) = place(chosen, indices) else {
         return Err(EvalFault::Rule(WRONG_SHAPE));
     };
-    let values = stretch(array.items.items(), at, items_of(rest));
+    let values = stretch(array.items.items(), at, rest);
     let shape = copy_shape(alloc, rest)?;
     let items = copy_values(alloc, values)?;
     Ok(Array {

@@ -1,7 +1,6 @@
 // How values are handed out over arrays of components.
 ghost use Rattle.std.specs.Prelude.{◌≡◌, ◌≤◌, ◌++◌, [], cond, IfOk, OnOk, length, replicate as replicated, Ok};
 ghost use Rattle.std.specs.List.{list_all};
-ghost use Rattle.cdl_values.specs.Values.{IsArray};
 ghost use Rattle.cdl_array.specs.Outcomes.{Answers};
 ghost use Rattle.cdl_array.specs.Scalars.{scalar_of as scalar_in};
 ghost use Rattle.cdl_paths.specs.HandOut as spec;
@@ -79,7 +78,6 @@ pub fn hand_out(
     indices: &[u32],
     array: &Array,
 ) -> Result<Array, EvalFault>
-    requires { IsArray array.now }
     ensures { Answers (spec.handed value_type wanted.now indices.now array.now) result }
 {
     if !fits(wanted, array.shape.items()) {
@@ -98,7 +96,6 @@ fn unit_part(
     indices: &[u32],
     array: &Array,
 ) -> Result<Array, EvalFault>
-    requires { IsArray array.now }
     ensures { Answers (spec.unit_part wanted.now indices.now array.now (scalar_in array.now)) result }
 {
     if scalar_of(array).is_some() {
@@ -185,8 +182,7 @@ pub fn units(
     shape: List<u32>,
     array: &Array,
 ) -> Result<Array, EvalFault>
-    requires array { IsArray array.now }
-    requires sizes { length shape ≤ 2 }
+    requires { length shape ≤ 2 }
     ensures { Answers (spec.units wanted.now indices.now shape array.now) result }
 {
     let part = match unit_part(alloc, wanted, indices, array) {

@@ -2,3 +2,4 @@ pub mod Expressions
 pub mod Sizes
 pub mod Values
 pub mod Links
+pub mod Units

@@ -1,6 +1,7 @@
 -- What parameters are worth. A place is a first class, which is the root of the model or a package, and the steps behind it, with
 -- their sizes beside them; an expression has the names of the class that stands there.
 use Rattle.std.specs.Prelude.{ℕ, zero, suc, ◌+◌, pos, Bool, true, false, List, [], ◌∷◌, ◌++◌, take, drop, map, replicate, codes, Option, Some, None, option_and_then, slice_get, Ok, Err}
+use Rattle.cdl_decimal.specs.Near.{in_range}
 use Rattle.cdl_values.specs.declared.value.Array.{Array}
 use Rattle.cdl_values.specs.declared.value.Value.{Value}
 use Rattle.cdl_values.specs.declared.value.Value.TheVariants as a
@@ -118,14 +119,14 @@ one_of _ = a.Integer (pos 1)
 abbrev pub ones : ValueType → ℕ → Array
 ones t n = record { value_type = t; shape = n ∷ []; items = replicate n (one_of t) }
 
--- a default, by what another parameter of the kind is worth, and by `nin`
+-- a default, by what another parameter of the kind is worth, and by `nin`; a Real is in range
 abbrev pub preset_value : (ℕ → Outcome Array) → Outcome ℕ → ValueType → Preset → Outcome Array
 preset_value same nin t preset.Absent = Err PARAMETER_WITHOUT_VALUE
 preset_value same nin t (preset.Same j) = same j
 preset_value same nin t preset.Ones = then_to nin (λ n. Ok (ones t n))
 preset_value same nin t (preset.Boolean b) = Ok (scalar (a.Boolean b))
 preset_value same nin t (preset.Integer z) = Ok (scalar (a.Integer z))
-preset_value same nin t (preset.Real q) = Ok (scalar (a.Real q))
+preset_value same nin t (preset.Real q) = some_or (in_range q) PARAMETER_WITHOUT_VALUE (λ x. Ok (scalar (a.Real x)))
 
 abbrev pub row_sizes : Outcome ℕ → Bool → Outcome (List (Option ℕ))
 row_sizes nin false = Ok []

@@ -1,0 +1,26 @@
+-- What is said of the same files.
+use Rattle.std.proofs.Common.{ℕ, ◌≡◌, subst, List, Result, []}
+use Rattle.cdl_values.specs.declared.value.Array.{Array}
+use Rattle.cdl_tree.specs.declared.class.FileTree.{FileTree}
+use Rattle.cdl_tree.specs.declared.class.Item.{Item}
+use Rattle.cdl_tree.specs.declared.expr.Expr.{Expr}
+use Rattle.cdl_array.specs.Outcomes.{Answers}
+use Rattle.cdl_array.specs.declared.fault.EvalFault.{EvalFault}
+use Rattle.cdl_scopes.specs.Classes.{declared}
+use Rattle.cdl_paths.specs.declared.path.Local.{Local}
+use Rattle.cdl_worth.specs.Sizes.{sizes_of}
+use Rattle.cdl_worth.specs.Units.{unit}
+use Rattle.cdl_worth.specs.Values.{Steps, value, evaluate, dims}
+
+pub same_value : (fs files : List FileTree) (d r : ℕ) (p : Steps) (n : List ℕ) (x : Result Array EvalFault) → fs ≡ files → Answers (value (declared fs) d r p n) x → Answers (value (declared files) d r p n) x
+same_value fs files d r p n x e h = subst (λ (f : List FileTree). Answers (value (declared f) d r p n) x) e h
+
+pub same_worth : (fs files : List FileTree) (d q r : ℕ) (p : Steps) (locals : List Local) (y : Expr) (x : Result Array EvalFault) → fs ≡ files → q ≡ r → Answers (evaluate (declared fs) d q p locals y) x → Answers (evaluate (declared files) d r p locals y) x
+same_worth fs files d q r p locals y x e k h = subst (λ (f : List FileTree). Answers (evaluate (declared f) d r p locals y) x) e (subst (λ (s : ℕ). Answers (evaluate (declared fs) d s p locals y) x) k h)
+
+pub same_dims : (fs files : List FileTree) (d q r : ℕ) (p : Steps) (y : Item) (x : Result (List ℕ) EvalFault) → fs ≡ files → q ≡ r → Answers (sizes_of (evaluate (declared fs) d q p []) y.dims) x → Answers (dims (declared files) d r p y) x
+unfolding dims
+same_dims fs files d q r p y x e k h = subst (λ (f : List FileTree). Answers (sizes_of (evaluate (declared f) d r p []) y.dims) x) e (subst (λ (s : ℕ). Answers (sizes_of (evaluate (declared fs) d s p []) y.dims) x) k h)
+
+pub same_unit : (fs files : List FileTree) (d r : ℕ) (p : Steps) (n : List ℕ) (x : Result Array EvalFault) → fs ≡ files → Answers (unit (declared fs) d r p n) x → Answers (unit (declared files) d r p n) x
+same_unit fs files d r p n x e h = subst (λ (f : List FileTree). Answers (unit (declared f) d r p n) x) e h

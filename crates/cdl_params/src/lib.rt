@@ -1,0 +1,15 @@
+//! Parameters: what each is worth at every path.
+#![tactic(auto)]
+
+mod calls;
+mod eval;
+mod kept;
+mod kinds;
+mod place;
+mod sizes;
+mod units;
+mod value;
+
+pub use cdl_array::EvalFault;
+pub use cdl_paths::{Local, Path, Step};
+pub use kept::Elaborator;
