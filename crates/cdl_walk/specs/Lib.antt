@@ -1,0 +1,15 @@
+pub mod Roles
+pub mod Arguments
+pub mod Declarations
+pub mod Finals
+pub mod Faults
+pub mod Places
+pub mod Elements
+pub mod Events
+pub mod Rows
+pub mod Worth
+pub mod Stations
+pub mod Judges
+pub mod Instances
+pub mod Texts
+pub mod inner
