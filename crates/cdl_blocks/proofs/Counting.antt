@@ -1,26 +1,19 @@
 -- Counters and changes, a tick further.
-use Rattle.std.proofs.Common.{ℕ, ◌≡◌, ◌≤◌, ◌∙◌, ap, refl, ℤ, List, [], ◌∷◌, Bool, true, false, cond, not, ◌&&◌, Some, None, Result, Ok, Err, arith}
+use Rattle.std.proofs.Common.{◌≡◌, ◌≤◌, ◌∙◌, ap, refl, ℤ, List, [], ◌∷◌, Bool, true, false, cond, not, ◌&&◌, Some, None, Result, Ok, Err, arith}
 use Rattle.std.specs.Prelude.{IsSome, MatchResult, OnErr, OnOk, pos, ◌+ℤ◌, unsigned_abs}
 use Rattle.std.proofs.lemmas.Int.{ints}
 use Rattle.std.proofs.lemmas.Bool.Decides.{nat_tests}
 use Rattle.cdl_values.specs.declared.value.ValueType.TheVariants.{Boolean}
-use Rattle.cdl_values.specs.History.{AreValues, History, before, bit, integer, integers, is_on, rises, tick, typed, word}
+use Rattle.cdl_values.specs.History.{AreValues, History, before, bit, integer, integers, is_on, tick, typed, word}
 use Rattle.cdl_kinds.specs.Meaning.Integers.{changes, counted, on_counter}
 use Rattle.cdl_kind_laws.proofs.TypedWords.{integer_typed}
 use Rattle.cdl_kind_laws.proofs.ValueWords.{bit_value, integer_fits, three_values}
 use Rattle.cdl_timed.proofs.ValueStates.{bit_again}
+use Rattle.cdl_timed.proofs.SumStates.{rises_before}
 use Rattle.cdl_blocks.specs.Counter.{count_next}
 
 pub changes_typed : (u p : ℤ) → AreValues (typed (Boolean ∷ Boolean ∷ Boolean ∷ [])) (changes u p)
 changes_typed u p = three_values Boolean Boolean Boolean _ _ _ (bit_value _) (bit_value _) (bit_value _)
-
-never : (a : Bool) → (a && false) ≡ false
-never true = refl
-never false = refl
-
-rises_before : (h : History) (x : List ℤ) (i : ℕ) → (is_on (word x i) && not (is_on (before (pos 1) i h))) ≡ rises h x i
-rises_before [] x i = never (is_on (word x i))
-rises_before (t ∷ h) x i = refl
 
 -- the count of the state is that of the history, and so it is a tick later
 pub count_further : (start now : ℤ) (s x : List ℤ) (h : History) (count r : ℤ) (trigger reset : Bool) → r ≡ count_next start count trigger reset x → count ≡ word s 0 → trigger ≡ is_on (word s 1) → reset ≡ is_on (word s 2)

@@ -1,11 +1,11 @@
 -- The trees of texts are formed.
 use Rattle.std.proofs.Common.{◌≡◌, ℕ, true, List, [], ◌∷◌, refl}
 use Rattle.std.specs.List.{list_all}
+use Rattle.std.proofs.lemmas.Bool.{and_from}
 use Rattle.cdl_tree.specs.declared.class.FileTree.{FileTree}
 use Rattle.cdl_tree.specs.FormedFiles.{formed_file}
 use Rattle.cdl_tree.specs.Spelled.{are_spelled}
 use Rattle.cdl_tree.specs.Terminals.{lexemes}
-use Rattle.cdl_tree.proofs.Shapes.{both}
 use Rattle.cdl_lex.proofs.Unbroken.{unbroken_tokens}
 use Rattle.cdl_reading.proofs.Spelled.{words_spelled}
 use Rattle.cdl_parse.proofs.Formed.{file_formed}
@@ -21,4 +21,4 @@ pub trees_formed : (texts : List (List ℕ)) (trees : List FileTree) → HaveTre
 trees_formed [] [] h = refl
 trees_formed [] (tree ∷ trees) h = absurd h
 trees_formed (text ∷ texts) [] h = absurd h
-trees_formed (text ∷ texts) (tree ∷ trees) h = both _ _ (tree_formed text tree h.0.0) (trees_formed texts trees h.1)
+trees_formed (text ∷ texts) (tree ∷ trees) h = and_from _ _ (tree_formed text tree h.0.0) (trees_formed texts trees h.1)

@@ -1,6 +1,7 @@
 -- The texts of models and their trees, side by side.
 use Rattle.std.proofs.Common.{◌≡◌, ◌∙◌, ◌+◌, ◌≤◌, ◌<◌, ℕ, zero, suc, List, [], ◌∷◌, ◌++◌, length, slice_get, slice_index_or, length-append, map, Option, Some, refl, sym, ap, subst, inl, inr, arith}
 use Rattle.cdl_source.specs.declared.limits.TheConstants.{LONGEST_MODEL}
+use Rattle.cdl_source.specs.declared.rules.TheConstants.{MODEL_TOO_LONG}
 use Rattle.std.proofs.Math.Nat.{lt_of_not-le}
 use Rattle.std.specs.Option.{option_map}
 use Rattle.std.proofs.lemmas.Option.{slice_get-map, slice_get_read}
@@ -38,15 +39,15 @@ as_many (y ∷ texts) [] h = absurd h
 as_many (y ∷ texts) (x ∷ trees) h = ap suc (as_many texts trees h.1)
 
 -- A text with a tree is no longer than a text may be.
-short_text : (text : List ℕ) (tree : FileTree) → HasTree text tree → length text ≤ 524288
+short_text : (text : List ℕ) (tree : FileTree) → HasTree text tree → length text ≤ LONGEST_MODEL
 short_text text tree h =
-    let within : length text < suc LONGEST_MODEL = lt_of_not-le (λ long. h.0.none_broken 1 LONGEST_MODEL (too_long (record { long = omega (arith, long); place = refl }))) in
+    let within : length text < suc LONGEST_MODEL = lt_of_not-le (λ long. h.0.none_broken MODEL_TOO_LONG LONGEST_MODEL (too_long (record { long = omega (arith, long); place = refl }))) in
     omega (arith, within)
 
-short_at : (texts : List (List ℕ)) (trees : List FileTree) (k : ℕ) (text : List ℕ) → HaveTrees texts trees → slice_get texts k ≡ Some text → length text ≤ 524288
+short_at : (texts : List (List ℕ)) (trees : List FileTree) (k : ℕ) (text : List ℕ) → HaveTrees texts trees → slice_get texts k ≡ Some text → length text ≤ LONGEST_MODEL
 short_at [] trees k text h is = absurd (cc is)
 short_at (y ∷ texts) [] k text h is = absurd h
-short_at (y ∷ texts) (x ∷ trees) zero text h is = let same : y ≡ text = cc is in subst (λ b. length b ≤ 524288) same (short_text y x h.0)
+short_at (y ∷ texts) (x ∷ trees) zero text h is = let same : y ≡ text = cc is in subst (λ b. length b ≤ LONGEST_MODEL) same (short_text y x h.0)
 short_at (y ∷ texts) (x ∷ trees) (suc k) text h is = short_at texts trees k text h.1 is
 
 pub are_short : (texts : List (List ℕ)) (trees : List FileTree) → HaveTrees texts trees → AreShort texts

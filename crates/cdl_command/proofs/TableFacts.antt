@@ -3,6 +3,7 @@ use Rattle.std.proofs.Common.{◌≡◌, ◌∙◌, ◌≤◌, ◌<◌, ℕ, Lis
 use Rattle.cdl_source.specs.Outside.{told, IsAbsent}
 use Rattle.cdl_source.specs.Whole.{KeepsHead}
 use Rattle.cdl_source.specs.declared.limits.TheConstants.{LONGEST_TABLE}
+use Rattle.cdl_source.specs.declared.rules.TheConstants.{TABLE_TOO_LONG}
 use Rattle.cdl_source.specs.declared.whole.ReadError.TheVariants.{TooLarge}
 use Rattle.cdl_table.specs.declared.column.Column.{Column}
 use Rattle.cdl_table.specs.Broken.{IsFirstBroken}
@@ -33,10 +34,10 @@ long_table inputs bytes long =
     }
 
 pub too_long : (contents : Contents) (name : List ℕ) (inputs : List Column) (head : List ℕ) (r : Refusal) → (IsAbsent contents name → ⊥) → KeepsHead LONGEST_TABLE (told contents name) (TooLarge head)
-    → r ≡ refusal_of 60 Whole → RefusesTable contents name inputs r
+    → r ≡ refusal_of TABLE_TOO_LONG Whole → RefusesTable contents name inputs r
 too_long contents name inputs head r there keeps is =
     let t = longer LONGEST_TABLE contents name head there keeps in
-    record { bytes = t.0; rule = 60; spot = Whole; holds = t.1.holds; broken = long_table inputs t.0 t.1.long; refusal_is = is }
+    record { bytes = t.0; rule = TABLE_TOO_LONG; spot = Whole; holds = t.1.holds; broken = long_table inputs t.0 t.1.long; refusal_is = is }
 
 only_cell : (inputs : List Column) (bytes : List ℕ) (rule row column : ℕ) → length bytes ≤ LONGEST_TABLE
     → ((a b c : ℕ) → IsFirstBroken inputs (table_records bytes) a b c → (a ≡ rule) × (b ≡ row) × (c ≡ column)) → IsOnlyFirst inputs bytes rule (Cell row column)

@@ -1,6 +1,7 @@
 -- From the bytes of a model to its tree, or to the rule that it breaks first.
 use Rattle.std.proofs.Common.{◌≡◌, ◌∙◌, ◌≤◌, ◌<◌, ℕ, List, length, take, Ok, Err, refl, sym, subst, inl, arith}
 use Rattle.cdl_source.specs.declared.limits.TheConstants.{LONGEST_MODEL}
+use Rattle.cdl_source.specs.declared.rules.TheConstants.{MODEL_TOO_LONG}
 use Rattle.std.proofs.lemmas.List.{take_all}
 use Rattle.cdl_source.specs.Place.{line_of, column_of}
 use Rattle.cdl_source.specs.Outside.{told, IsAbsent}
@@ -36,7 +37,7 @@ tree_found t bytes tree b none splits lexed found only =
     (tree_is t bytes tree b none splits found, λ other o. sym (only other (closed t bytes b lexed other o)))
 
 -- A rule of tokens has a number from 1 on, and rule 1 is broken behind the longest text.
-number : {bytes : List ℕ} {r p : ℕ} → Breaks bytes r p → (1 ≤ r) × (r ≡ 1 → p ≡ LONGEST_MODEL)
+number : {bytes : List ℕ} {r p : ℕ} → Breaks bytes r p → (1 ≤ r) × (r ≡ MODEL_TOO_LONG → p ≡ LONGEST_MODEL)
 number (too_long x) = (omega arith, λ e. x.place)
 number (not_utf8 x) = (omega arith, λ e. absurd (omega (arith, e)))
 number (no_token x) = (omega arith, λ e. absurd (omega (arith, e)))
@@ -44,7 +45,7 @@ number (past_limits ts s x) = (omega arith, λ e. absurd (omega (arith, e)))
 number (too_deep ts s x) = (omega arith, λ e. absurd (omega (arith, e)))
 number (too_many ts s x) = (omega arith, λ e. absurd (omega (arith, e)))
 
-first_too_long : (text : List ℕ) → LONGEST_MODEL < length text → IsFirstBroken text 1 LONGEST_MODEL
+first_too_long : (text : List ℕ) → LONGEST_MODEL < length text → IsFirstBroken text MODEL_TOO_LONG LONGEST_MODEL
 first_too_long text long =
     record {
       broken = too_long (record { long = long; place = refl });
@@ -54,11 +55,11 @@ first_too_long text long =
 
 -- the place behind the longest text stands in the head's line and column
 at_head : (file : ℕ) (head text : List ℕ) → length head ≡ LONGEST_MODEL → head ≡ take LONGEST_MODEL text
-    → refusal_at 1 (record { file = file; byte = LONGEST_MODEL }) head ≡ refusal_at 1 (record { file = file; byte = LONGEST_MODEL }) text
+    → refusal_at MODEL_TOO_LONG (record { file = file; byte = LONGEST_MODEL }) head ≡ refusal_at MODEL_TOO_LONG (record { file = file; byte = LONGEST_MODEL }) text
 at_head file head text l k =
     let same : take LONGEST_MODEL head ≡ take LONGEST_MODEL text = take_all LONGEST_MODEL head (omega (arith, l)) ∙ k in
-    let P : List ℕ → Type 0 = λ front. refusal_at 1 (record { file = file; byte = LONGEST_MODEL }) head
-    ≡ (record { rule = 1; spot = (refusal_at 1 (record { file = file; byte = LONGEST_MODEL }) text).spot; line = line_of front; column = column_of front }) in
+    let P : List ℕ → Type 0 = λ front. refusal_at MODEL_TOO_LONG (record { file = file; byte = LONGEST_MODEL }) head
+    ≡ (record { rule = MODEL_TOO_LONG; spot = (refusal_at MODEL_TOO_LONG (record { file = file; byte = LONGEST_MODEL }) text).spot; line = line_of front; column = column_of front }) in
     subst P same refl
 
 pub not_whole_read : (contents : Contents) (name : List ℕ) (file : ℕ) (e : ReadError) (rose : Type 0) → (e ≡ Failed → rose) → (IsAbsent contents name → e ≡ Failed)
@@ -68,7 +69,7 @@ not_whole_read contents name file (TooLarge head) rose failed absent keeps =
     let t = longer LONGEST_MODEL contents name head (λ none. absurd (cc (absent none))) keeps in
     record {
       text = t.0;
-      rule = 1;
+      rule = MODEL_TOO_LONG;
       place = record { file = file; byte = LONGEST_MODEL };
       holds = t.1.holds;
       broken = inl (refl, first_too_long t.0 t.1.long);

@@ -1,5 +1,5 @@
 -- The ticks of a block, and the records that were written of them.
-use Rattle.std.proofs.Common.{◌≡◌, ◌∙◌, ◌+◌, ◌≤◌, ◌<◌, ℕ, suc, ℤ, pos, List, [], ◌∷◌, ◌++◌, length, take, drop, slice_get, Option, Some, Result, Ok, Err, IfErr, refl, sym, ap, subst, inl, inr, append_assoc, append-nil, length-append, arith}
+use Rattle.std.proofs.Common.{◌≡◌, ◌∙◌, ◌+◌, ◌≤◌, ◌<◌, ℕ, suc, ℤ, pos, List, [], ◌∷◌, ◌++◌, length, take, drop, slice_get, Option, Some, Err, refl, sym, ap, subst, inl, inr, append_assoc, append-nil, length-append, arith}
 use Rattle.std.proofs.lemmas.List.{take_all, take-append-le, take_more, take-append-drop}
 use Rattle.std.proofs.lemmas.Option.{slice_get_within}
 use Rattle.std.proofs.Math.Seq.{take-append-add, drop-cons}
@@ -200,10 +200,6 @@ header_stops block columns rows old new rose trace.WriteFault c w fault = (fault
 header_stops block columns rows old new rose trace.OutOfMemory c w fault = header_cut block columns rows old new c w
 
 -- ---- how the rows end
-
-pub if_err : {A E : Type 0} {P Q : E → Type 0} (r : Result A E) → ((e : E) → P e → Q e) → IfErr r P → IfErr r Q
-if_err (Ok a) f p = tt
-if_err (Err e) f p = f e p
 
 pub ends_whole : (block : Block) (rows : List TableRow) (old new : Option (List ℕ)) → WroteTrace block rows old new → EndsWith block rows outcome.Done old new
 ends_whole block rows old new w = (w.0, whole w.1, w.2)

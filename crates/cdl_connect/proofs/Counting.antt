@@ -7,14 +7,11 @@ use Rattle.cdl_source.specs.declared.rules.TheConstants.{MORE_THAN_ONE_SOURCE}
 use Rattle.cdl_network.specs.Rules.{fault_by}
 use Rattle.std.proofs.lemmas.Bool.{cases_eq, ne_eqb}
 
-eqb-true-refl : (n : ℕ) → eqb n n ≡ true
-eqb-true-refl n = eq-eqb n n refl
-
 -- a table of counts, after the count at one place was raised
 pub counts_next : {X : Type 0} (f : X → ℕ) (xs : List X) (i : ℕ) (x : X) (counts : List ℕ) (n : ℕ) → i < length xs → get_or xs i x ≡ x → length counts ≡ n → f x < n → ((e : ℕ) → e < n → get_or counts e 0 ≡ count_by (λ w. f w == e) (take i xs)) → (e : ℕ) → e < n → get_or (set counts (f x) (get_or counts (f x) 0 + 1)) e 0 ≡ count_by (λ w. f w == e) (take (i + 1) xs)
 counts_next f xs i x counts n h r l g c e k = elim (cases_eq (f x) e) as (λ _. get_or (set counts (f x) (get_or counts (f x) 0 + 1)) e 0 ≡ count_by (λ w. f w == e) (take (i + 1) xs)) [
   | inl q ↦
-      let y : eqb (f (get_or xs i x)) e ≡ true = rw (r, q) (eqb-true-refl e) in
+      let y : eqb (f (get_or xs i x)) e ≡ true = rw (r, q) (eq-eqb e e refl) in
       let m = count_by_more_yes (λ w. f w == e) xs i x h y in
       let a : f x < length counts = omega (arith, l) in
       let b : get_or (set counts e (get_or counts e 0 + 1)) e 0 ≡ get_or counts e 0 + 1 = get_or-set_same counts e (get_or counts e 0 + 1) 0 (omega (arith, l)) in

@@ -31,7 +31,7 @@ arrivals_are n x =
     count_map wire_in (λ w. sink_of (network_of n) (wire_in w) == x) (λ w. sink_of (network_of n) w == x) n.wires (λ w i. refl)
     ∙ count_is (λ w. sink_of (network_of n) (wire_in w) == x) n.wires
 
-number_at : (n k : ℕ) → k < n → slice_get (numbers 0 n) k ≡ Some k
+pub number_at : (n k : ℕ) → k < n → slice_get (numbers 0 n) k ≡ Some k
 number_at n k h = let e : 0 + k ≡ k = omega arith in slice_numbers 0 n k h ∙ ap Some e
 
 pub in_all : (n k : ℕ) → k < n → In k (numbers 0 n)

@@ -1,7 +1,8 @@
 -- The elements of an instance of a kind: its inputs, and behind them its outputs; and that inputs which aren't direct have no part in its meaning.
 use Rattle.std.proofs.Common.{ℕ, zero, suc, ◌+◌, ◌-◌, ◌<◌, ◌≤◌, ◌≡◌, ◌==◌, ◌&&◌, refl, sym, ap, ◌∙◌, subst, arith, ℤ, Bool, true, false, cond, not, List, [], ◌∷◌, length, map, filter, Option, Some, None, slice_get}
+use Rattle.cdl_source.proofs.Cases.{by_bool}
 use Rattle.std.specs.Prelude.{nat_le, nat_lt}
-use Rattle.std.proofs.lemmas.Bool.{eq-eqb, eqb-true, lt-ltb, ltb-true, leb-true, le-leb, false≢true, le-ltb, and_from, and_right}
+use Rattle.std.proofs.lemmas.Bool.{eq-eqb, eqb-true, lt-ltb, ltb-true, leb-true, le-leb, false≢true, le-ltb, and_from, and_right, and_parts}
 use Rattle.cdl_kinds.specs.declared.kind.Kind.{Kind}
 use Rattle.cdl_values.specs.declared.value.Array.{Array}
 use Rattle.cdl_values.specs.History.{History, Meaning, SameDirect, word}
@@ -13,8 +14,6 @@ use Rattle.cdl_kind_laws.proofs.Direct.{direct_only}
 use Rattle.cdl_network.specs.Dependence.{is_of, inputs_of, outputs_of, direct_of}
 use Rattle.cdl_network.specs.Lists.{numbers}
 use Rattle.cdl_network.specs.Planned.{DirectOnly, SameWhere}
-use Rattle.cdl_network.proofs.Inside.{and_both}
-use Rattle.cdl_network.proofs.Numbers.{bool_cases}
 use Rattle.cdl_network.proofs.Places.{window, in_numbers, filter_no, filter_front, filter_back}
 use Rattle.cdl_connect.specs.declared.net.Net.{Net}
 use Rattle.cdl_connect.specs.declared.net.NetInstance.{NetInstance}
@@ -27,7 +26,7 @@ use Rattle.cdl_connect.specs.WellFormed.{IsIndexed, AreOfKinds, HasPorts, FitsBo
 pub own_window : (n : Net) (i x : ℕ) (t : NetInstance) → IsIndexed n → slice_get n.instances i ≡ Some t → x < length n.elements → (element n x).instance ≡ i → (t.first ≤ x) × (x < t.first + t.count)
 own_window n i x t f s h e =
     let w = sym (f.windows.own i t x s h) ∙ eq-eqb (element n x).instance i e in
-    let p = and_both (nat_le t.first x) (nat_lt x (t.first + t.count)) w in
+    let p = and_parts (nat_le t.first x) (nat_lt x (t.first + t.count)) w in
     (leb-true t.first x p.0, ltb-true x (t.first + t.count) p.1)
 
 pub window_own : (n : Net) (i x : ℕ) (t : NetInstance) → IsIndexed n → slice_get n.instances i ≡ Some t → x < length n.elements → t.first ≤ x → x < t.first + t.count → (element n x).instance ≡ i
@@ -109,7 +108,7 @@ outputs_are n i t k p o =
 pub direct_are : (n : Net) (i : ℕ) (t : NetInstance) (k : Kind) (p : List Array) → IsOf n i t k p → direct_of (network_of n) i ≡ cond (row k).direct (numbers t.first (inputs k p).count) []
 direct_are n i t k p o =
     own_elements n i t (λ x. (network_of n).input x && (network_of n).direct x) o.indexed o.there
-    ∙ bool_cases (row k).direct
+    ∙ by_bool (row k).direct
     (λ d. filter_front (λ x. (network_of n).input x && (network_of n).direct x) t.first t.count (inputs k p).count (outputs k p).count o.ports.count
     (λ x a b. and_from ((network_of n).input x) ((network_of n).direct x) (input_at n i t k p x o a b) (at x a (omega (arith, b, o.ports.count)) ∙ d))
     (λ x a b. ap (λ c. c && (network_of n).direct x) (output_at n i t k p x o a b))

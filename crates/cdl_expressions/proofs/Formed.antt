@@ -3,6 +3,7 @@ use Rattle.std.proofs.Common.{◌≡◌, ℕ, ℤ, Bool, true, ◌&&◌, List, [
 use Rattle.std.specs.List.{list_all}
 use Rattle.std.specs.Str.{is_utf8}
 use Rattle.std.proofs.lemmas.List.Folds.{list_all-append}
+use Rattle.std.proofs.lemmas.Bool.{and_from, and_parts}
 use Rattle.cdl_tree.specs.declared.terminal.Terminal.{Terminal}
 use Rattle.cdl_tree.specs.declared.terminal.Terminal.TheVariants as the
 use Rattle.cdl_tree.specs.declared.name.Ident.{Ident}
@@ -18,7 +19,7 @@ use Rattle.cdl_tree.specs.Spelled.{is_spelled_as, is_spelled, are_spelled}
 use Rattle.cdl_tree.specs.Formed.{formed_ident, formed_name, is_integer, is_not_negative, is_written, is_formed}
 use Rattle.cdl_tree.specs.FormedFiles.{formed_value, formed_modifier}
 use Rattle.cdl_tree.specs.Grammar.{NameOf, single, dotted, ExprOf, conditional, logical, Otherwise, otherwise_if, otherwise, Lor, one_land, or_land, Land, one_lnot, and_lnot, Lnot, as_it_is, not_rel, Rel, one_sum, compared, Sum, one_term, signed, added, Term, one_prim, times, Prim, integer, real, string, true_word, false_word, paren, array, call, refer, Operands, no_operand, operands, Subscripts, no_subscript, subscripts, Exprs, one_expr, more_exprs, Value, no_value, value, Condition, no_condition, condition, ArgsOf, no_arg, args, ArgList, one_arg, more_args, OptionalArgs, without_args, with_args, ArgOf, arg}
-use Rattle.cdl_tree.proofs.Shapes.{both, split, name_some, expr_proper}
+use Rattle.cdl_tree.proofs.Shapes.{name_some, expr_proper}
 use Rattle.cdl_expressions.proofs.Meant.{integer_fits, real_not_negative, string_utf8}
 
 -- ---- spelled words
@@ -27,10 +28,10 @@ abbrev pub Spelled : Word → Type 0
 Spelled w = are_spelled w ≡ true
 
 pub parted : (v w : Word) → Spelled (v ++ w) → Spelled v × Spelled w
-parted v w s = split (are_spelled v) (are_spelled w) (sym (list_all-append is_spelled v w) ∙ s)
+parted v w s = and_parts (are_spelled v) (are_spelled w) (sym (list_all-append is_spelled v w) ∙ s)
 
 pub front : (t : Lexeme) (w : Word) → Spelled (t ∷ w) → (is_spelled t ≡ true) × Spelled w
-front t w s = split (is_spelled t) (are_spelled w) s
+front t w s = and_parts (is_spelled t) (are_spelled w) s
 
 -- before and behind a token, and between two
 pub around : (v : Word) (t : Lexeme) (w : Word) → Spelled (v ++ t ∷ w) → Spelled v × Spelled w
@@ -48,17 +49,17 @@ ident_formed t e s = spelled_as t the.Identifier e s
 -- ---- names
 
 pub further : {A : Type 0} (p : A → Bool) (xs : List A) (x : A) → list_all p xs ≡ true → p x ≡ true → list_all p (xs ++ x ∷ []) ≡ true
-further p xs x h i = list_all-append p xs (x ∷ []) ∙ both _ _ h (both _ _ i refl)
+further p xs x h i = list_all-append p xs (x ∷ []) ∙ and_from _ _ h (and_from _ _ i refl)
 
 pub parts_formed : {w : Word} {parts : List Ident} → NameOf w parts → Spelled w → list_all formed_ident parts ≡ true
-parts_formed (single a h) s = both _ _ (ident_formed a h (front a [] s).0) refl
+parts_formed (single a h) s = and_from _ _ (ident_formed a h (front a [] s).0) refl
 parts_formed (dotted {v} p a {parts} n h i) s =
     let halves = parted v (p ∷ a ∷ []) s in
     let last = front a [] (front p (a ∷ []) halves.1).1 in
     further formed_ident parts (the_ident a) (parts_formed n halves.0) (ident_formed a i last.0)
 
 pub name_formed : {w : Word} {parts : List Ident} → NameOf w parts → Spelled w → formed_name (the_name parts) ≡ true
-name_formed n s = both _ _ (name_some n) (parts_formed n s)
+name_formed n s = and_from _ _ (name_some n) (parts_formed n s)
 
 -- ---- what a node of each shape owes
 
@@ -103,14 +104,14 @@ unfolding is_written tree
 refer_is parts es w = search (rules, the_lemmas)
 
 binary : (o : Op) (l r : Expr) (w : Word) → is_written l ≡ true → is_written r ≡ true → is_written (tree (node.Binary o l r) w) ≡ true
-binary o l r w i j = binary_is o l r w ∙ both _ _ i j
+binary o l r w i j = binary_is o l r w ∙ and_from _ _ i j
 
 choice : (c x y : Expr) (w : Word) → is_written c ≡ true → is_written x ≡ true → is_written y ≡ true → is_written (tree (node.If c x y) w) ≡ true
-choice c x y w h i j = choice_is c x y w ∙ both _ _ h (both _ _ i j)
+choice c x y w h i j = choice_is c x y w ∙ and_from _ _ h (and_from _ _ i j)
 
 all_behind : (es : List Expr) (e : Expr) → all_of (map is_written es) ≡ true → is_written e ≡ true → all_of (map is_written (es ++ e ∷ [])) ≡ true
-all_behind [] e h i = both _ _ i refl
-all_behind (x ∷ es) e h i = let parts = split (is_written x) (all_of (map is_written es)) h in both _ _ parts.0 (all_behind es e parts.1 i)
+all_behind [] e h i = and_from _ _ i refl
+all_behind (x ∷ es) e h i = let parts = and_parts (is_written x) (all_of (map is_written es)) h in and_from _ _ parts.0 (all_behind es e parts.1 i)
 
 -- ---- expressions
 
@@ -164,9 +165,9 @@ mutual
   prim_written (array a b {w} {es} h x i) s = array_is es _ ∙ exprs_written x (between a w b s)
   prim_written (call f a b {w} {es} h i x j) s =
       let parts = front f (a ∷ (w ++ b ∷ [])) s in
-      call_is (the_ident f) es _ ∙ both _ _ (ident_formed f h parts.0) (operands_written x (between a w b parts.1))
+      call_is (the_ident f) es _ ∙ and_from _ _ (ident_formed f h parts.0) (operands_written x (between a w b parts.1))
   prim_written (refer {v} {w} {parts} {es} n x) s =
-      let halves = parted v w s in refer_is parts es _ ∙ both _ _ (parts_formed n halves.0) (subscripts_written x halves.1)
+      let halves = parted v w s in refer_is parts es _ ∙ and_from _ _ (parts_formed n halves.0) (subscripts_written x halves.1)
 
   operands_written : {w : Word} {es : List Expr} → Operands w es → Spelled w → all_of (map is_written es) ≡ true
   operands_written no_operand s = refl
@@ -177,12 +178,12 @@ mutual
   subscripts_written (subscripts a b {w} h x i) s = exprs_written x (between a w b s)
 
   exprs_written : {w : Word} {es : List Expr} → Exprs w es → Spelled w → all_of (map is_written es) ≡ true
-  exprs_written (one_expr x) s = both _ _ (expr_written x s) refl
+  exprs_written (one_expr x) s = and_from _ _ (expr_written x s) refl
   exprs_written (more_exprs {v} {w} t {es} {e} xs h x) s = let parts = around v t w s in all_behind es e (exprs_written xs parts.0) (expr_written x parts.1)
 
 pub expr_formed : {w : Word} {e : Expr} → ExprOf w e → Spelled w → is_formed e ≡ true
 unfolding is_formed
-expr_formed x s = both _ _ (expr_proper x) (expr_written x s)
+expr_formed x s = and_from _ _ (expr_proper x) (expr_written x s)
 
 -- ---- values and arguments
 
@@ -213,8 +214,8 @@ modifier_with each is_final name ms e w = search (rules, modifier_lemmas)
 
 a_modifier : (each is_final : Bool) (name : Ident) (ms : Option (List Modifier)) (e : Option Expr) (w : Word) → formed_ident name ≡ true → inside ms ≡ true → formed_value e ≡ true
     → formed_modifier (the_modifier each is_final name ms e w) ≡ true
-a_modifier each is_final name None e w n h i = modifier_alone each is_final name e w ∙ both _ _ n i
-a_modifier each is_final name (Some ms) e w n h i = modifier_with each is_final name ms e w ∙ both _ _ n (both _ _ (all_is formed_modifier ms ∙ h) i)
+a_modifier each is_final name None e w n h i = modifier_alone each is_final name e w ∙ and_from _ _ n i
+a_modifier each is_final name (Some ms) e w n h i = modifier_with each is_final name ms e w ∙ and_from _ _ n (and_from _ _ (all_is formed_modifier ms ∙ h) i)
 
 mutual
   pub args_formed : {w : Word} {ms : List Modifier} → ArgsOf w ms → Spelled w → list_all formed_modifier ms ≡ true
@@ -222,7 +223,7 @@ mutual
   args_formed (args a b {w} h x i) s = list_formed x (between a w b s)
 
   list_formed : {w : Word} {ms : List Modifier} → ArgList w ms → Spelled w → list_all formed_modifier ms ≡ true
-  list_formed (one_arg x) s = both _ _ (arg_formed x s) refl
+  list_formed (one_arg x) s = and_from _ _ (arg_formed x s) refl
   list_formed (more_args {v} {w} t {ms} {m} xs h x) s = let parts = around v t w s in further formed_modifier ms m (list_formed xs parts.0) (arg_formed x parts.1)
 
   pub optional_formed : {w : Word} {ms : Option (List Modifier)} → OptionalArgs w ms → Spelled w → inside ms ≡ true

@@ -1,8 +1,8 @@
 -- What the literals of a text mean is as a text may have it: strings are UTF-8, and numbers are not negative.
-use Rattle.std.proofs.Common.{◌≡◌, ◌⊎◌, ℕ, zero, suc, ◌*◌, ◌/◌, ◌^◌, ◌≤◌, ◌<◌, ℤ, pos, ◌*ℤ◌, ◌+ℤ◌, Bool, true, false, ◌&&◌, ◌||◌, ◌==◌, nat_le, cond, if◌then◌else◌, List, [], ◌∷◌, ◌++◌, length, slice_index, get_or, nat_lt, Option, Some, None, refl, sym, ap, ◌∙◌, subst, arith, append-nil, inl, inr}
+use Rattle.std.proofs.Common.{◌≡◌, ◌⊎◌, ℕ, zero, suc, ◌*◌, ◌/◌, ◌^◌, ◌≤◌, ◌<◌, ℤ, pos, ◌*ℤ◌, ◌+ℤ◌, Bool, true, false, ◌&&◌, ◌||◌, ◌==◌, nat_le, cond, if◌then◌else◌, List, [], ◌∷◌, ◌++◌, length, slice_index, get_or, Option, Some, None, refl, sym, ap, ◌∙◌, subst, arith, append-nil, inl, inr}
 use Rattle.cdl_source.specs.declared.limits.TheConstants.{LARGEST_INTEGER}
 use Rattle.std.proofs.Math.Utf8.{encode, encodes, scalar, scalars}
-use Rattle.std.proofs.lemmas.Bool.{eqb-true}
+use Rattle.std.proofs.lemmas.Bool.{eqb-true, cases_lt, and_parts}
 use Rattle.std.proofs.lemmas.Bool.Decides.{nat_tests}
 use Rattle.std.proofs.lemmas.Str.{encode_ascii, IsUtf8-nil, IsUtf8-from_ascii, length-encode, len_utf8_bounds, inside_one, IsUtf8-append, IsUtf8-encode, IsUtf8-past_char, IsUtf8-from_is_utf8, is_utf8-from_IsUtf8}
 use Rattle.std.specs.Char.{is_ascii_digit, IsScalar}
@@ -17,7 +17,6 @@ use Rattle.cdl_tree.specs.inner.Strings.{put, closed, unescaped, opened, string_
 use Rattle.cdl_tree.proofs.Meanings.{some_string}
 use Rattle.cdl_tree.specs.Spelled.{begins_with_digit}
 use Rattle.cdl_tree.specs.Formed.{is_integer, is_not_negative}
-use Rattle.cdl_tree.proofs.Shapes.{split}
 
 -- ---- whole numbers
 
@@ -62,21 +61,13 @@ abbrev Highs : List ℕ → Type 0
 Highs [] = Unit {0}
 Highs (x ∷ l) = (128 ≤ x) × Highs l
 
--- a character that is no ASCII one has no byte of ASCII
-order : (m n : ℕ) → (m < n) ⊎ (n ≤ m)
-order m n = go (nat_lt m n) refl
-  where
-    go : (b : Bool) → nat_lt m n ≡ b → (m < n) ⊎ (n ≤ m)
-    go true e = inl (grind (arith, nat_tests))
-    go false e = inr (grind (arith, nat_tests))
-
 highs : (l : List ℕ) → ((k : ℕ) → k < length l → 128 ≤ get_or l k 0) → Highs l
 highs [] f = tt
 highs (x ∷ l) f = (f 0 (omega arith), highs l (λ k h. f (suc k) (omega (arith, h))))
 
 -- a character that is no ASCII one has no byte of ASCII
 high : (c : ℕ) → 128 ≤ c → Highs (encode c)
-high c m = highs (encode c) (λ k h. at k h (order (get_or (encode c) k 0) 128))
+high c m = highs (encode c) (λ k h. at k h (cases_lt (get_or (encode c) k 0) 128))
   where
     at : (k : ℕ) → k < length (encode c) → (get_or (encode c) k 0 < 128) ⊎ (128 ≤ get_or (encode c) k 0) → 128 ≤ get_or (encode c) k 0
     at k h (inl low) = let same = inside_one c [] (encode c) k (sym (append-nil (encode c))) h low in omega (arith, same, low, m)
@@ -166,9 +157,9 @@ some_bytes c = let n = length-encode c in let m = len_utf8_bounds c in omega (ar
 inside_meant : (cs : List ℕ) (escape : Bool) (s : List ℕ) → scalars cs ≡ true → unescaped escape (encodes cs) ≡ Some s → IsUtf8 s
 inside_meant [] escape s all e = cc
 inside_meant (c ∷ cs) escape s all e =
-    let parts = split (scalar c) (scalars cs) all in
+    let parts = and_parts (scalar c) (scalars cs) all in
     let later : (escape : Bool) (x : List ℕ) → unescaped escape (encodes cs) ≡ Some x → IsUtf8 x = λ escape x. inside_meant cs escape x parts.1 in
-    elim (order c 128) [
+    elim (cases_lt c 128) [
       | inl low ↦ one escape low (subst (λ z. unescaped escape (z ++ encodes cs) ≡ Some s) (encode_ascii c low) e) later
       | inr above ↦ run escape above parts.0 e later
     ]

@@ -1,7 +1,8 @@
 -- In a network that breaks no rule each element has one origin.
 use Rattle.std.proofs.Common.{ℕ, zero, suc, ◌≡◌, ◌⊎◌, ◌&&◌, ◌||◌, refl, sym, ap, ◌∙◌, subst, arith, Bool, true, false, cond, not, inl, inr, List, [], ◌∷◌, filter, length, Option, Some, None, slice_get}
-use Rattle.std.proofs.lemmas.Bool.{false≢true}
+use Rattle.std.proofs.lemmas.Bool.{false≢true, and_parts, not-true}
 use Rattle.cdl_source.specs.declared.rules.TheConstants.{TWO_SOURCES_OR_SINKS}
+use Rattle.cdl_source.proofs.Cases.{by_bool}
 use Rattle.cdl_network.specs.Closed.{Closed, Shaped}
 use Rattle.cdl_network.specs.Dependence.{From, HasOrigin, NoLoop, Origin, Out, Row, Walk, is_of, is_root_input, outputs_of, root_inputs}
 use Rattle.cdl_network.specs.Lists.{Apart, In, Tells, count, first_of, found, has_some}
@@ -9,9 +10,8 @@ use Rattle.cdl_network.specs.Network.{Network, Wire}
 use Rattle.cdl_network.specs.Planned.{AgreeAll, DirectOnly, Origins, Planned}
 use Rattle.cdl_network.specs.Rules.{arrivals, element_fault, fault_by, first_element, first_wire, goes, is_inner, is_own, is_sink, is_some_same, is_source, is_wanted, sink_of, source_of, wire_fault}
 use Rattle.cdl_network.specs.Ticks.{Solves, Tick, Valuation}
-use Rattle.cdl_network.proofs.Numbers.{bool_cases}
 use Rattle.cdl_network.proofs.Walks.{short_of}
-use Rattle.cdl_network.proofs.Inside.{kept_in, kept_true, and_both, in_slice, in_filter, origin_inside}
+use Rattle.cdl_network.proofs.Inside.{kept_in, kept_true, in_slice, in_filter, origin_inside}
 use Rattle.cdl_network.proofs.Solving.{solution, one_list}
 
 -- lists
@@ -26,21 +26,21 @@ none_of f x (y ∷ ys) e i = none_of_at f x y (f y) (first_of f ys) (In x ys) re
 
 count_none : {A : Type 0} (f : A → Bool) (xs : List A) (x : A) → count f xs ≡ 0 → In x xs → f x ≡ true → ⊥
 count_none f [] x e i h = i
-count_none f (y ∷ ys) x e i h = bool_cases (f y)
+count_none f (y ∷ ys) x e i h = by_bool (f y)
     (λ g. let z : suc (count f ys) ≡ 0 = sym (ap (λ b. cond b (suc (count f ys)) (count f ys)) g) ∙ e in absurd (omega arith))
     (λ g. let z : count f ys ≡ 0 = sym (ap (λ b. cond b (suc (count f ys)) (count f ys)) g) ∙ e in
     elim i as (λ _. ⊥) [ inl q ↦ false≢true (sym g ∙ ap f (sym q) ∙ h) | inr j ↦ count_none f ys x z j h ])
 
 pub count_one : {A : Type 0} (f : A → Bool) (xs : List A) → count f xs ≡ 1 → (x : A) × In x xs × (f x ≡ true)
 count_one f [] e = absurd (omega arith)
-count_one f (y ∷ ys) e = bool_cases (f y)
+count_one f (y ∷ ys) e = by_bool (f y)
     (λ g. (y, inl refl, g))
     (λ g. let z : count f ys ≡ 1 = sym (ap (λ b. cond b (suc (count f ys)) (count f ys)) g) ∙ e in
     let r = count_one f ys z in (r.0, inr r.1, r.2))
 
 pub count_same : {A : Type 0} (f : A → Bool) (xs : List A) (x y : A) → count f xs ≡ 1 → In x xs → In y xs → f x ≡ true → f y ≡ true → x ≡ y
 count_same f [] x y e i j g h = absurd i
-count_same f (z ∷ zs) x y e i j g h = bool_cases (f z)
+count_same f (z ∷ zs) x y e i j g h = by_bool (f z)
     (λ t. let u : suc (count f zs) ≡ 1 = sym (ap (λ b. cond b (suc (count f zs)) (count f zs)) t) ∙ e in
     let n : count f zs ≡ 0 = omega arith in
     head i n ∙ sym (heads j n))
@@ -81,30 +81,26 @@ once (y ∷ ys) zero (suc k) x a e f = let q : y ≡ x = cc in absurd (a.0 (subs
 once (y ∷ ys) (suc j) zero x a e f = let q : y ≡ x = cc in absurd (a.0 (subst (λ z. In z ys) (sym q) (in_slice ys j x e)))
 once (y ∷ ys) (suc j) (suc k) x a e f = ap suc (once ys j k x a.1 e f)
 
-not_true : (b : Bool) → not b ≡ true → b ≡ false
-not_true true h = absurd (false≢true h)
-not_true false h = refl
-
 -- what an origin says of an element
 row_fact : {I E : Type 0} (n : Network I E) (x : E) (k : ℕ) → HasOrigin n x (Row k) → (n.input x ≡ true) × (has_some (n.parent (n.owner x)) ≡ false)
 row_fact n x k o =
     let t = kept_true (is_root_input n) x n.elements (in_slice (root_inputs n) k x o) in
-    let p = and_both (n.input x) (not (has_some (n.parent (n.owner x)))) t in
-    (p.0, not_true (has_some (n.parent (n.owner x))) p.1)
+    let p = and_parts (n.input x) (not (has_some (n.parent (n.owner x)))) t in
+    (p.0, not-true (has_some (n.parent (n.owner x))) p.1)
 
 out_fact : {I E : Type 0} (n : Network I E) (x : E) (i : I) (k : ℕ) → Shaped n → HasOrigin n x (Out i k) → (n.input x ≡ false) × (n.owner x ≡ i) × (n.elementary (n.owner x) ≡ true)
 out_fact n x i k s o =
     let t = kept_true (λ y. is_of n i y && not (n.input y)) x n.elements (in_slice (outputs_of n i) k x o.2) in
-    let p = and_both (is_of n i x) (not (n.input x)) t in
+    let p = and_parts (is_of n i x) (not (n.input x)) t in
     let e = s.instances.yes (n.owner x) i p.0 in
-    (not_true (n.input x) p.1, e, ap n.elementary e ∙ o.1)
+    (not-true (n.input x) p.1, e, ap n.elementary e ∙ o.1)
 
 some_of : {A : Type 0} (same : A → A → Bool) (s : A) (o : Option A) → is_some_same same s o ≡ true → has_some o ≡ true
 some_of same s None h = h
 some_of same s (Some p) h = refl
 
 sink_wanted : {I E : Type 0} (n : Network I E) (s : I) (x : E) → Shaped n → is_sink n s x ≡ true → n.elementary s ≡ false → is_wanted n x ≡ true
-sink_wanted n s x z h e = bool_cases (n.input x)
+sink_wanted n s x z h e = by_bool (n.input x)
     (λ t. ap (λ b. cond b (has_some (n.parent (n.owner x))) (not (n.elementary (n.owner x)))) t
     ∙ some_of n.same_instance s (n.parent (n.owner x)) (sym (ap (λ b. cond b (is_inner n s x) (is_own n s x)) t) ∙ h))
     (λ t. let own : is_own n s x ≡ true = sym (ap (λ b. cond b (is_inner n s x) (is_own n s x)) t) ∙ h in
@@ -118,10 +114,10 @@ either_goes false true o h e = refl
 either_goes false false o h e = absurd (cc)
 
 pub sink_end : {I E : Type 0} (n : Network I E) (w : Wire I E) → wire_fault n w ≡ None → is_sink n w.scope (sink_of n w) ≡ true
-sink_end n w f = bool_cases (goes n w.scope w.left w.right)
-    (λ t. ap (λ b. is_sink n w.scope (cond b w.right w.left)) t ∙ (and_both (is_source n w.scope w.left) (is_sink n w.scope w.right) t).1)
+sink_end n w f = by_bool (goes n w.scope w.left w.right)
+    (λ t. ap (λ b. is_sink n w.scope (cond b w.right w.left)) t ∙ (and_parts (is_source n w.scope w.left) (is_sink n w.scope w.right) t).1)
     (λ t. let u = either_goes (goes n w.scope w.left w.right) (goes n w.scope w.right w.left) _ f t in
-    ap (λ b. is_sink n w.scope (cond b w.right w.left)) t ∙ (and_both (is_source n w.scope w.right) (is_sink n w.scope w.left) u).1)
+    ap (λ b. is_sink n w.scope (cond b w.right w.left)) t ∙ (and_parts (is_source n w.scope w.right) (is_sink n w.scope w.left) u).1)
 
 from_fact : {I E : Type 0} (n : Network I E) (x s : E) → Shaped n → first_wire n ≡ None → HasOrigin n x (From s) → is_wanted n x ≡ true
 from_fact n x s z f o = subst (λ y. is_wanted n y ≡ true) o.3
@@ -147,10 +143,10 @@ arrives_once n x f i h = one_arrival (arrivals n x) (sym (ap (λ b. fault_by b (
 
 -- each element has an origin
 pub has_origin : {I E : Type 0} (n : Network I E) (x : E) → Closed n → Shaped n → first_element n ≡ None → In x n.elements → (c : Origin I E) × HasOrigin n x c
-has_origin {I} {E} n x c z f i = bool_cases (is_wanted n x)
+has_origin {I} {E} n x c z f i = by_bool (is_wanted n x)
     (λ h. let a = count_one (λ w. n.same_element (sink_of n w) x) n.wires (arrives_once n x f i h) in
     (From (source_of n a.0), (a.0, a.1, refl, z.elements.yes (sink_of n a.0) x a.2)))
-    (λ h. bool_cases (n.input x)
+    (λ h. by_bool (n.input x)
     (λ t. let p : has_some (n.parent (n.owner x)) ≡ false = sym (ap (λ b. cond b (has_some (n.parent (n.owner x))) (not (n.elementary (n.owner x)))) t) ∙ h in
     let root : is_root_input n x ≡ true = ap (λ b. b && not (has_some (n.parent (n.owner x)))) t ∙ ap not p in
     let k = slice_in x (root_inputs n) (kept_in (is_root_input n) x n.elements i root) in
@@ -197,7 +193,7 @@ planned_of n c z f g u o = planned_by n (suc (length n.elements)) c z f g u (sho
 -- a function that gives the origins
 decide : {A : Type 0} (same : A → A → Bool) (x : A) (xs : List A) → Tells same → In x xs ⊎ (In x xs → ⊥)
 decide same x [] t = inr (λ i. i)
-decide same x (y ∷ ys) t = bool_cases (same x y)
+decide same x (y ∷ ys) t = by_bool (same x y)
     (λ h. inl (inl (t.yes x y h)))
     (λ h. elim (decide same x ys t) as (λ _. In x (y ∷ ys) ⊎ (In x (y ∷ ys) → ⊥)) [
       | inl i ↦ inl (inr i)

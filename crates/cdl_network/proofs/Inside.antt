@@ -1,6 +1,7 @@
 -- What has an origin, and what an origin reads, is an element.
-use Rattle.std.proofs.Common.{ℕ, zero, suc, ◌≡◌, ◌⊎◌, ◌&&◌, refl, sym, ap, ◌∙◌, subst, Bool, true, false, cond, not, inl, inr, List, [], ◌∷◌, filter, Some, slice_get}
-use Rattle.std.proofs.lemmas.Bool.{false≢true}
+use Rattle.std.proofs.Common.{ℕ, zero, suc, ◌≡◌, ◌⊎◌, ◌&&◌, sym, ap, ◌∙◌, subst, Bool, true, false, cond, not, inl, inr, List, [], ◌∷◌, filter, Some, slice_get}
+use Rattle.cdl_source.proofs.Cases.{by_bool}
+use Rattle.std.proofs.lemmas.Bool.{and_parts}
 use Rattle.cdl_network.specs.Closed.{Closed}
 use Rattle.cdl_network.specs.Dependence.{From, HasOrigin, Origin, Out, Reads, Row, direct_of, inputs_of, is_of, is_root_input, outputs_of}
 use Rattle.cdl_network.specs.Lists.{In}
@@ -43,10 +44,6 @@ reads_inside m x (Row k) s c o r = absurd r
 reads_inside m x (From t) s c o r = subst (λ y. In y m.elements) (o.2 ∙ sym r) (source_inside m o.0 c o.1)
 reads_inside m x (Out i k) s c o r = direct_inside m i s r
 
-by_bool : {P : Type 0} (b : Bool) → (b ≡ true → P) → (b ≡ false → P) → P
-by_bool true f g = f refl
-by_bool false f g = g refl
-
 pub kept_in : {A : Type 0} (f : A → Bool) (x : A) (xs : List A) → In x xs → f x ≡ true → In x (filter f xs)
 kept_in f x [] i h = i
 kept_in f x (y ∷ ys) (inl e) h =
@@ -68,14 +65,10 @@ kept_true f x (y ∷ ys) i = by_bool (f y)
     at t (inl e) g = ap f e ∙ t
     at t (inr j) g = g j
 
-pub and_both : (a b : Bool) → (a && b) ≡ true → (a ≡ true) × (b ≡ true)
-and_both true b h = (refl, h)
-and_both false b h = absurd (false≢true h)
-
 -- an input that is direct is among the direct ones
 pub picked : {I E : Type 0} (n : Network I E) (i : I) (x : E) → In x (inputs_of n i) → n.direct x ≡ true → In x (direct_of n i)
 picked n i x h d =
     let t = kept_true (λ y. is_of n i y && n.input y) x n.elements h in
-    let p = and_both (is_of n i x) (n.input x) t in
+    let p = and_parts (is_of n i x) (n.input x) t in
     let both : (is_of n i x && (n.input x && n.direct x)) ≡ true = ap (λ b. b && (n.input x && n.direct x)) p.0 ∙ ap (λ b. b && n.direct x) p.1 ∙ d in
     kept_in (λ y. is_of n i y && (n.input y && n.direct y)) x n.elements (inputs_inside n i x h) both

@@ -1,16 +1,13 @@
 -- Places in lists.
 use Rattle.std.proofs.Common.{ℕ, zero, suc, ◌≡◌, ◌⊎◌, ◌==◌, refl, sym, ap, ◌∙◌, subst, Bool, true, false, cond, inl, inr, List, [], ◌∷◌, ◌++◌, map, length, Some, slice_get}
+use Rattle.cdl_source.proofs.Cases.{by_bool}
 use Rattle.std.proofs.lemmas.Bool.{false≢true, eqb-true, eq-eqb}
 use Rattle.cdl_network.specs.Lists.{Apart, In, Sorted, Tells, number, numbers}
 use Rattle.cdl_network.proofs.Inside.{in_slice}
 
-pub bool_cases : {P : Type 0} (b : Bool) → (b ≡ true → P) → (b ≡ false → P) → P
-bool_cases true f g = f refl
-bool_cases false f g = g refl
-
 pub slice_number : {A : Type 0} (same : A → A → Bool) (xs : List A) (x : A) → Tells same → In x xs → slice_get xs (number same xs x) ≡ Some x
 slice_number same [] x t i = absurd i
-slice_number same (y ∷ ys) x t i = bool_cases (same x y)
+slice_number same (y ∷ ys) x t i = by_bool (same x y)
     (λ h. ap (λ b. slice_get (y ∷ ys) (cond b 0 (suc (number same ys x)))) h ∙ ap Some (sym (t.yes x y h)))
     (λ h. ap (λ b. slice_get (y ∷ ys) (cond b 0 (suc (number same ys x)))) h ∙ slice_number same ys x t (rest h i))
   where
@@ -52,7 +49,7 @@ numbers_are same Before [] t f s = refl
 numbers_are same Before (y ∷ ys) t f s =
     let head : number same (y ∷ ys) y ≡ 0 = ap (λ b. cond b 0 (suc (number same ys y))) (t.self y) in
     let tail : map (number same (y ∷ ys)) ys ≡ map suc (map (number same ys) ys) = map_then (number same ys) suc (number same (y ∷ ys)) ys (λ x i.
-    ap (λ b. cond b 0 (suc (number same ys x))) (bool_cases (same x y) (λ h. absurd (f y (subst (λ z. Before y z) (t.yes x y h) (s.0 x i)))) (λ h. h))) in
+    ap (λ b. cond b 0 (suc (number same ys x))) (by_bool (same x y) (λ h. absurd (f y (subst (λ z. Before y z) (t.yes x y h) (s.0 x i)))) (λ h. h))) in
     let rest = numbers_are same Before ys t f s.1 in
     ap (λ z. z ∷ map (number same (y ∷ ys)) ys) head ∙ ap (λ l. 0 ∷ l) (tail ∙ ap (map suc) rest ∙ map_suc 0 (length ys))
 
@@ -72,5 +69,5 @@ number_place same (z ∷ zs) zero x t a e =
     ap (λ b. cond b 0 (suc (number same zs x))) (ap (same x) (sym q) ∙ t.self x)
 number_place same (z ∷ zs) (suc k) x t a e =
     let i = in_slice zs k x e in
-    ap (λ b. cond b 0 (suc (number same zs x))) (bool_cases (same x z) (λ h. absurd (a.0 (subst (λ u. In u zs) (t.yes x z h) i))) (λ h. h))
+    ap (λ b. cond b 0 (suc (number same zs x))) (by_bool (same x z) (λ h. absurd (a.0 (subst (λ u. In u zs) (t.yes x z h) i))) (λ h. h))
     ∙ ap suc (number_place same zs k x t a.1 e)

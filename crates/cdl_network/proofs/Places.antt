@@ -1,5 +1,6 @@
 -- From what code does: windows of ports, counts, the first by its place.
 use Rattle.std.proofs.Common.{ℕ, zero, suc, ◌+◌, ◌-◌, ◌<◌, ◌≤◌, ◌≡◌, ◌==◌, ◌&&◌, refl, ap, ◌∙◌, arith, Bool, true, false, cond, inl, inr, List, [], ◌∷◌, ◌++◌, filter, length, Option, Some, None, slice_get}
+use Rattle.cdl_source.proofs.Cases.{by_bool}
 use Rattle.std.specs.Prelude.{count_by}
 use Rattle.std.proofs.lemmas.Bool.{eqb-true, eqb-false}
 use Rattle.std.proofs.lemmas.List.Recursion.{is_count_by}
@@ -8,11 +9,12 @@ use Rattle.cdl_network.specs.Dependence.{Determines}
 use Rattle.cdl_network.specs.Lists.{Apart, In, Tells, count, first_of, first_that, found, number, numbers}
 use Rattle.cdl_network.specs.Network.{Network}
 use Rattle.cdl_network.specs.Planned.{Ordered}
-use Rattle.cdl_network.proofs.Numbers.{bool_cases}
 use Rattle.cdl_network.proofs.Inside.{origin_inside}
 use Rattle.cdl_network.proofs.Checking.{slice_in}
 use Rattle.cdl_network.proofs.Numbers.{number_place}
 use Rattle.std.proofs.lemmas.Option.{slice_get_within}
+use Rattle.std.proofs.lemmas.List.Elements.{filter-append}
+use Rattle.std.proofs.lemmas.List.{append-nil}
 
 pub numbers_split : (a n b c : ℕ) → n ≡ b + c → numbers a n ≡ numbers a b ++ numbers (a + b) c
 numbers_split a n zero c e = let x : n ≡ c = omega arith in let y : a ≡ a + 0 = omega arith in ap (numbers a) x ∙ ap (λ z. numbers z c) y
@@ -30,12 +32,6 @@ in_numbers a (suc n) x (inr i) = let r = in_numbers (suc a) n x i in (omega (ari
 cond_append : {A : Type 0} (t : Bool) (x : A) (xs ys : List A) → cond t (x ∷ (xs ++ ys)) (xs ++ ys) ≡ cond t (x ∷ xs) xs ++ ys
 cond_append true x xs ys = refl
 cond_append false x xs ys = refl
-
-pub filter_both : {A : Type 0} (f : A → Bool) (xs ys : List A) → filter f (xs ++ ys) ≡ filter f xs ++ filter f ys
-filter_both f [] ys = refl
-filter_both f (x ∷ xs) ys =
-    let r = filter_both f xs ys in
-    rw r (cond_append (f x) x (filter f xs) (filter f ys))
 
 pub filter_no : {A : Type 0} (f : A → Bool) (xs : List A) → ((x : A) → In x xs → f x ≡ false) → filter f xs ≡ []
 filter_no f [] h = refl
@@ -58,23 +54,19 @@ filter_all f (x ∷ xs) h =
     let r = filter_all f xs (λ y i. h y (inr i)) in
     rw (a, r) refl
 
-append_none : {A : Type 0} (l : List A) → l ++ [] ≡ l
-append_none [] = refl
-append_none (x ∷ l) = ap (λ z. x ∷ z) (append_none l)
-
 -- the first so many numbers pass, and no other
 pub filter_front : (q : ℕ → Bool) (s n a b : ℕ) → n ≡ a + b → ((x : ℕ) → s ≤ x → x < s + a → q x ≡ true) → ((x : ℕ) → s + a ≤ x → x < s + a + b → q x ≡ false) → filter q (numbers s n) ≡ numbers s a
 filter_front q s n a b e some none =
     let front = filter_all q (numbers s a) (λ x i. let r = in_numbers s a x i in some x r.0 r.1) in
     let back = filter_no q (numbers (s + a) b) (λ x i. let r = in_numbers (s + a) b x i in none x r.0 r.1) in
-    ap (filter q) (numbers_split s n a b e) ∙ filter_both q (numbers s a) (numbers (s + a) b) ∙ ap (λ l. l ++ filter q (numbers (s + a) b)) front ∙ ap (λ l. numbers s a ++ l) back ∙ append_none (numbers s a)
+    ap (filter q) (numbers_split s n a b e) ∙ filter-append q (numbers s a) (numbers (s + a) b) ∙ ap (λ l. l ++ filter q (numbers (s + a) b)) front ∙ ap (λ l. numbers s a ++ l) back ∙ append-nil (numbers s a)
 
 -- those behind the first so many numbers pass, and no other
 pub filter_back : (q : ℕ → Bool) (s n a b : ℕ) → n ≡ a + b → ((x : ℕ) → s ≤ x → x < s + a → q x ≡ false) → ((x : ℕ) → s + a ≤ x → x < s + a + b → q x ≡ true) → filter q (numbers s n) ≡ numbers (s + a) b
 filter_back q s n a b e none some =
     let front = filter_no q (numbers s a) (λ x i. let r = in_numbers s a x i in none x r.0 r.1) in
     let back = filter_all q (numbers (s + a) b) (λ x i. let r = in_numbers (s + a) b x i in some x r.0 r.1) in
-    ap (filter q) (numbers_split s n a b e) ∙ filter_both q (numbers s a) (numbers (s + a) b) ∙ ap (λ l. l ++ filter q (numbers (s + a) b)) front ∙ back
+    ap (filter q) (numbers_split s n a b e) ∙ filter-append q (numbers s a) (numbers (s + a) b) ∙ ap (λ l. l ++ filter q (numbers (s + a) b)) front ∙ back
 
 -- what p picks is a window
 pub window : (p q : ℕ → Bool) (len first size : ℕ) → first + size ≤ len → ((x : ℕ) → x < first → p x ≡ false) → ((x : ℕ) → first ≤ x → x < first + size → p x ≡ true) → ((x : ℕ) → first + size ≤ x → x < len → p x ≡ false) → filter (λ x. p x && q x) (numbers 0 len) ≡ filter q (numbers first size)
@@ -87,8 +79,8 @@ window p q len first size l before inside after =
     let no_before : filter f (numbers 0 first) ≡ [] = filter_no f (numbers 0 first) (λ x i. let r = in_numbers 0 first x i in ap (λ b. b && q x) (before x (omega (arith, r.1)))) in
     let here : filter f (numbers first size) ≡ filter q (numbers first size) = filter_like f q (numbers first size) (λ x i. let r = in_numbers first size x i in ap (λ b. b && q x) (inside x r.0 r.1)) in
     let no_after : filter f (numbers (first + size) rest) ≡ [] = filter_no f (numbers (first + size) rest) (λ x i. let r = in_numbers (first + size) rest x i in ap (λ b. b && q x) (after x r.0 (omega (arith, r.1)))) in
-    ap (filter f) split ∙ filter_both f (numbers 0 first) _ ∙ ap (λ l. l ++ filter f (numbers first size ++ numbers (first + size) rest)) no_before
-    ∙ filter_both f (numbers first size) (numbers (first + size) rest) ∙ ap (λ l. filter f (numbers first size) ++ l) no_after ∙ ends (filter f (numbers first size)) ∙ here
+    ap (filter f) split ∙ filter-append f (numbers 0 first) _ ∙ ap (λ l. l ++ filter f (numbers first size ++ numbers (first + size) rest)) no_before
+    ∙ filter-append f (numbers first size) (numbers (first + size) rest) ∙ ap (λ l. filter f (numbers first size) ++ l) no_after ∙ ends (filter f (numbers first size)) ∙ here
   where
     ends : (l : List ℕ) → l ++ [] ≡ l
     ends [] = refl
@@ -112,7 +104,7 @@ first_not f (y ∷ ys) h = ap (λ o. found y o (first_of f ys)) (h 0 y refl) ∙
 
 pub first_number : (f : ℕ → Bool) (a n i : ℕ) → a ≤ i → i < a + n → f i ≡ true → ((j : ℕ) → a ≤ j → j < i → f j ≡ false) → first_that f (numbers a n) ≡ Some i
 first_number f a zero i l m h g = absurd (omega arith)
-first_number f a (suc n) i l m h g = bool_cases (a == i)
+first_number f a (suc n) i l m h g = by_bool (a == i)
     (λ e. let q = eqb-true a i e in ap (λ z. cond (f z) (Some z) (first_that f (numbers (suc a) n))) q ∙ ap (λ b. cond b (Some i) (first_that f (numbers (suc a) n))) h)
     (λ e. let lt : suc a ≤ i = below a i l e in
     let none : f a ≡ false = g a (omega arith) lt in

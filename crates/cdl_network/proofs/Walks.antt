@@ -1,12 +1,12 @@
 -- Without a loop no walk is longer than there are elements.
 use Rattle.std.proofs.Common.{ℕ, zero, suc, ◌+◌, ◌≤◌, ◌≡◌, ◌⊎◌, refl, sym, ap, ◌∙◌, subst, arith, Bool, false, cond, inl, inr, List, [], ◌∷◌, length}
+use Rattle.cdl_source.proofs.Cases.{by_bool}
 use Rattle.std.proofs.lemmas.Bool.{false≢true}
 use Rattle.cdl_network.specs.Closed.{Closed, Shaped}
 use Rattle.cdl_network.specs.Dependence.{NoLoop, Walk}
 use Rattle.cdl_network.specs.Lists.{Apart, In, Tells}
 use Rattle.cdl_network.specs.Network.{Network}
 use Rattle.cdl_network.specs.Planned.{Ordered}
-use Rattle.cdl_network.proofs.Numbers.{bool_cases}
 use Rattle.cdl_network.proofs.Inside.{origin_inside}
 
 -- the elements at which a walk comes by, its end first, but not its beginning
@@ -44,19 +44,19 @@ remove_at same x y ys zs t h (inr j) g = g j
 remove_length : {A : Type 0} (same : A → A → Bool) (x : A) (ys : List A) → Tells same → In x ys → suc (length (remove same x ys)) ≡ length ys
 unfolding remove
 remove_length same x [] t i = absurd i
-remove_length same x (y ∷ ys) t i = bool_cases (same x y)
+remove_length same x (y ∷ ys) t i = by_bool (same x y)
     (λ h. ap (λ b. suc (length (cond b ys (y ∷ remove same x ys)))) h)
     (λ h. ap (λ b. suc (length (cond b ys (y ∷ remove same x ys)))) h ∙ ap suc (remove_at same x y ys (remove same x ys) t h i (λ j. remove_length same x ys t j)))
 
 removed_in : {A : Type 0} (same : A → A → Bool) (x z : A) (ys : List A) → Tells same → (z ≡ x → ⊥) → In z ys → In z (remove same x ys)
 unfolding remove
 removed_in same x z [] t d i = i
-removed_in same x z (y ∷ ys) t d (inl e) = bool_cases (same x y)
+removed_in same x z (y ∷ ys) t d (inl e) = by_bool (same x y)
     (λ h. absurd (d (e ∙ sym (t.yes x y h))))
     (λ h. subst (λ b. In z (cond b ys (y ∷ remove same x ys))) (sym h) (inl e))
 removed_in same x z (y ∷ ys) t d (inr j) =
     let r = removed_in same x z ys t d j in
-    bool_cases (same x y)
+    by_bool (same x y)
     (λ h. subst (λ b. In z (cond b ys (y ∷ remove same x ys))) (sym h) j)
     (λ h. subst (λ b. In z (cond b ys (y ∷ remove same x ys))) (sym h) (inr r))
 

@@ -1,6 +1,7 @@
 -- The identifiers behind the `end`s of a text are one list: each one stands where its class ends, and the places of tokens rise.
-use Rattle.std.proofs.Common.{◌≡◌, ℕ, ◌≤◌, ◌<◌, true, false, ◌==◌, List, [], ◌∷◌, ◌++◌, map, refl, sym, ap, ◌∙◌, rules, arith, if◌then◌else◌, append_assoc, append-nil}
+use Rattle.std.proofs.Common.{◌≡◌, ℕ, ◌≤◌, ◌<◌, false, ◌==◌, List, [], ◌∷◌, ◌++◌, map, refl, sym, ap, ◌∙◌, rules, arith, if◌then◌else◌, append_assoc, append-nil}
 use Rattle.std.proofs.lemmas.Bool.Decides.{nat_tests}
+use Rattle.std.proofs.lemmas.Bool.{eq-eqb}
 use Rattle.cdl_source.specs.declared.place.Token.{Token}
 use Rattle.cdl_lex.specs.TokenList.{TokenList, RiseFrom}
 use Rattle.cdl_lex.specs.Texts.{AreTokens}
@@ -119,9 +120,6 @@ Rising : ℕ → Word → Type 0
 Rising from [] = Unit {0}
 Rising from (t ∷ w) = (from < t.span.end) × Rising t.span.end w
 
-same_byte : (n : ℕ) → (n == n) ≡ true
-same_byte n = grind (arith, nat_tests)
-
 other_byte : (n m : ℕ) → n < m → (n == m) ≡ false
 other_byte n m h = grind (arith, nat_tests)
 
@@ -134,7 +132,7 @@ known_behind t f (x ∷ w) from le r k =
 all_known : (w : Word) (from : ℕ) → Rising from w → Known (find w) w
 unfolding Known Rising find
 all_known [] from r = tt
-all_known (t ∷ w) from r = (ap (λ b. if b then the_ident t else find w t.span.end) (same_byte t.span.end), known_behind t (find w) w t.span.end (omega arith) r.1 (all_known w t.span.end r.1))
+all_known (t ∷ w) from r = (ap (λ b. if b then the_ident t else find w t.span.end) (eq-eqb t.span.end t.span.end refl), known_behind t (find w) w t.span.end (omega arith) r.1 (all_known w t.span.end r.1))
 
 rises : (bytes : List ℕ) (ts : List Token) (from : ℕ) → RiseFrom from ts → Rising from (lexemes bytes ts)
 unfolding Rising

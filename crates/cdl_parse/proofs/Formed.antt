@@ -2,6 +2,7 @@
 use Rattle.std.proofs.Common.{◌≡◌, Bool, true, ◌&&◌, List, [], ◌∷◌, ◌++◌, map, Option, refl, ◌∙◌, rules}
 use Rattle.std.specs.List.{list_all}
 use Rattle.std.proofs.lemmas.List.Folds.{list_all-append}
+use Rattle.std.proofs.lemmas.Bool.{and_from}
 use Rattle.cdl_tree.specs.declared.name.Ident.{Ident}
 use Rattle.cdl_tree.specs.declared.name.Name.{Name}
 use Rattle.cdl_tree.specs.declared.class.Item.{Item}
@@ -15,12 +16,12 @@ use Rattle.cdl_tree.specs.Proper.{is_some, all_of}
 use Rattle.cdl_tree.specs.Formed.{formed_ident}
 use Rattle.cdl_tree.specs.FormedFiles.{formed_item, formed_statement, formed_class, formed_within, formed_file}
 use Rattle.cdl_tree.specs.Grammar.{BlockParts, no_block_part, block_section, block_note, block_clause, LiteralOf, literal, Literals, one_literal, more_literals, ClassOf, a_block, a_package, an_enumeration, PackageParts, no_package_part, package_section, package_note, package_constant, package_class, Within, no_within, within_top, within, Classes, one_class, more_classes, FileOf, file}
-use Rattle.cdl_tree.proofs.Shapes.{both, some_behind}
+use Rattle.cdl_tree.proofs.Shapes.{some_behind}
 use Rattle.cdl_expressions.proofs.Formed.{Spelled, parted, front, around, between, ident_formed, name_formed, further, all_is}
 use Rattle.cdl_clauses.proofs.Formed.{clause_formed, constant_formed, equation_formed}
 
 joined : {A : Type 0} (p : A → Bool) (xs ys : List A) → list_all p xs ≡ true → list_all p ys ≡ true → list_all p (xs ++ ys) ≡ true
-joined p xs ys h i = list_all-append p xs ys ∙ both _ _ h i
+joined p xs ys h i = list_all-append p xs ys ∙ and_from _ _ h i
 
 -- ---- blocks
 
@@ -36,7 +37,7 @@ literal_formed : {w : Word} {i : Ident} → LiteralOf w i → Spelled w → form
 literal_formed (literal i {w} h t) s = ident_formed i h (front i w s).0
 
 literals_formed : {w : Word} {xs : List Ident} → Literals w xs → Spelled w → list_all formed_ident xs ≡ true
-literals_formed (one_literal x) s = both _ _ (literal_formed x s) refl
+literals_formed (one_literal x) s = and_from _ _ (literal_formed x s) refl
 literals_formed (more_literals {v} {w} t {is} {i} xs h x) s = let parts = around v t w s in further formed_ident is i (literals_formed xs parts.0) (literal_formed x parts.1)
 
 literals_some : {w : Word} {xs : List Ident} → Literals w xs → is_some xs ≡ true
@@ -64,15 +65,15 @@ mutual
   class_formed (a_block b n e m {u} {v} {w} h i t p q j k) s =
       let name = front n (u ++ (v ++ (w ++ e ∷ m ∷ []))) (front b (n ∷ (u ++ (v ++ (w ++ e ∷ m ∷ [])))) s).1 in
       let items = parted v (w ++ e ∷ m ∷ []) (parted u (v ++ (w ++ e ∷ m ∷ [])) name.1).1 in
-      block_is _ _ _ _ ∙ both _ _ (ident_formed n i name.0) (both _ _ (block_parts_formed p items.0) (equation_formed q (parted w (e ∷ m ∷ []) items.1).0))
+      block_is _ _ _ _ ∙ and_from _ _ (ident_formed n i name.0) (and_from _ _ (block_parts_formed p items.0) (equation_formed q (parted w (e ∷ m ∷ []) items.1).0))
   class_formed (a_package p n e m {u} {v} {ts} {xs} h i t q j k) s =
       let name = front n (u ++ (v ++ e ∷ m ∷ [])) (front p (n ∷ (u ++ (v ++ e ∷ m ∷ []))) s).1 in
       let inner = (parted v (e ∷ m ∷ []) (parted u (v ++ e ∷ m ∷ []) name.1).1).0 in
-      package_is _ ts xs _ ∙ both _ _ (ident_formed n i name.0) (both _ _ (all_is formed_class ts ∙ package_classes q inner) (package_items q inner))
+      package_is _ ts xs _ ∙ and_from _ _ (ident_formed n i name.0) (and_from _ _ (all_is formed_class ts ∙ package_classes q inner) (package_items q inner))
   class_formed (an_enumeration t n q f a b {v} {w} h i j k l x m y) s =
       let name = front n (q ∷ f ∷ a ∷ (v ++ b ∷ w)) (front t (n ∷ q ∷ f ∷ a ∷ (v ++ b ∷ w)) s).1 in
       let behind = front a (v ++ b ∷ w) (front f (a ∷ (v ++ b ∷ w)) (front q (f ∷ a ∷ (v ++ b ∷ w)) name.1).1).1 in
-      enumeration_is _ _ _ ∙ both _ _ (ident_formed n i name.0) (both _ _ (literals_some x) (literals_formed x (around v b w behind.1).0))
+      enumeration_is _ _ _ ∙ and_from _ _ (ident_formed n i name.0) (and_from _ _ (literals_some x) (literals_formed x (around v b w behind.1).0))
 
   package_classes : {w : Word} {ts : List ClassTree} {xs : List Item} {ends : List Closing} → PackageParts w ts xs ends → Spelled w → list_all formed_class ts ≡ true
   package_classes no_package_part s = refl
@@ -98,7 +99,7 @@ within_formed (within_top t k h i) s = refl
 within_formed (within t k {w} h n i) s = name_formed n (between t w k s)
 
 classes_formed : {w : Word} {ts : List ClassTree} {ends : List Closing} → Classes w ts ends → Spelled w → list_all formed_class ts ≡ true
-classes_formed (one_class {w} k c h) s = both _ _ (class_formed c (parted w (k ∷ []) s).0) refl
+classes_formed (one_class {w} k c h) s = and_from _ _ (class_formed c (parted w (k ∷ []) s).0) refl
 classes_formed (more_classes {v} {w} k {ts} {t} cs c h) s =
     let parts = parted v (w ++ k ∷ []) s in further formed_class ts t (classes_formed cs parts.0) (class_formed c (parted w (k ∷ []) parts.1).0)
 
@@ -108,4 +109,4 @@ classes_some (more_classes k {ts} {t} cs c h) = some_behind ts t
 
 pub file_formed : {w : Word} {t : FileTree} {ends : List Closing} → FileOf w t ends → Spelled w → formed_file t ≡ true
 unfolding formed_file
-file_formed (file {v} {w} p cs) s = let parts = parted v w s in both _ _ (within_formed p parts.0) (both _ _ (classes_some cs) (classes_formed cs parts.1))
+file_formed (file {v} {w} p cs) s = let parts = parted v w s in and_from _ _ (within_formed p parts.0) (and_from _ _ (classes_some cs) (classes_formed cs parts.1))

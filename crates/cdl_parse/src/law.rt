@@ -16,8 +16,8 @@ pub fn one_tree()
     ensures { (w : Word) (t u : Tree) → Sentence w t → Sentence w u → t ≡ u }
 {}
 
-/// Laws, which compute nothing: a list of tokens is either a sentence with right identifiers behind `end`, or stuck (rule 7), or
-/// misnamed (rule 8), never two of these; and a refusal has one place. The identifiers behind `end` of a text are one list.
+/// Laws, which compute nothing: a list of tokens is either a sentence with right identifiers behind `end`, or stuck (C7), or
+/// misnamed (C8), never two of these; and a refusal has one place. The identifiers behind `end` of a text are one list.
 pub fn one_verdict()
     ensures one_closings { (tokens : TokenList) → AreTokens tokens.bytes tokens.items → (tree other : Tree) (ends others : List Closing)
         → FileOf (word_of tokens) tree ends → FileOf (word_of tokens) other others → ends ≡ others }

@@ -36,11 +36,11 @@ pub enum ParseFault {
 /// The tree of the tokens of a file, where they are a sentence of the grammar (docs/LANGUAGE.md) and each identifier behind
 /// an `end` is that of its class. There is one.
 ///
-/// Tokens that are no sentence are refused by rule 7. Its place is the first byte of the first token behind the longest
+/// Tokens that are no sentence are refused by C7. Its place is the first byte of the first token behind the longest
 /// front of the tokens that begins a sentence, or the end of the file where all of them begin one. A sentence in which an
-/// identifier behind an `end` is not that of its block or package is refused by rule 8, at the first byte of the first such
+/// identifier behind an `end` is not that of its block or package is refused by C8, at the first byte of the first such
 /// identifier. The time is linear in the number of tokens. The stack grows with the nesting of the text and with the
-/// operators of one expression, which rules 5 and 6 bound.
+/// operators of one expression, which C5 and C6 bound.
 pub fn parse(alloc: Global, tokens: &Tokens) -> Result<FileTree, ParseFault>
     // The tree that is given derives the tokens, and the identifiers behind `end` are right.
     ensures found { IfOk result (λ tree. Closes (word_of tokens.now) tree) }

@@ -1,7 +1,9 @@
 -- The second pass keeps what it has made true.
 use Rattle.std.proofs.Common.{ℕ, ◌+◌, ◌<◌, ◌≤◌, ◌≡◌, refl, sym, ap, ◌∙◌, true, false, ℤ, List, length, take, drop, pos, arith, length-take, length-drop, Option, Some, None, IsSome, slice_get}
+use Rattle.cdl_source.proofs.Cases.{by_lt, by_bool}
 use Rattle.std.proofs.lemmas.List.{take-take, drop-take, get_or-take}
 use Rattle.std.proofs.lemmas.Bool.{false≢true}
+use Rattle.std.proofs.lemmas.Option.{slice_get_within}
 use Rattle.cdl_values.specs.declared.value.ValueType.{ValueType}
 use Rattle.cdl_values.specs.History.{IsTime, IsValue, AreValues, word}
 use Rattle.cdl_pass.specs.declared.net.Node.{Node}
@@ -10,8 +12,8 @@ use Rattle.cdl_pass.specs.Windows.{window, ins_of, state_of, OnlyState}
 use Rattle.cdl_pass.specs.Net.{Blocks, Net, AllAt, Fits, Laid, Names, Reads, Writes, sort_at}
 use Rattle.cdl_pass.specs.Tick.{Past, Valuation, Starts, Solves, NoFault, lacks, ready, words_from}
 use Rattle.cdl_pass.specs.Absorb.{MayAbsorb, Absorbed, Moved, Stood, longer}
-use Rattle.cdl_pass.proofs.Ready.{by_lt, by_bool, word_in, drop_later, ready_all, value_some, ins_words}
-use Rattle.cdl_pass.proofs.Passing.{DirectOnly, one_there, there, within, same_meets, same_fault, state_kept}
+use Rattle.cdl_pass.proofs.Ready.{word_in, drop_later, ready_all, value_some, ins_words}
+use Rattle.cdl_pass.proofs.Passing.{DirectOnly, one_there, there, same_meets, same_fault, state_kept}
 
 pub window_before : (w v : List ℤ) (k a n : ℕ) → take k v ≡ take k w → a + n ≤ k → window v a n ≡ window w a n
 window_before w v k a n e h =
@@ -90,7 +92,7 @@ pub solves_kept : {B : Type 0} {m : Blocks B} {n : Net B} {size : ℕ} (now : �
 solves_kept now row r v u d l a f i o e = same_meets now row r v u o d l (λ x w. a x (reads_within o l (l.actions i o e) x w)) (λ x w. a x (writes_within o l (l.actions i o e) x w)) (f i o e)
 
 pub no_fault_kept : {B : Type 0} {m : Blocks B} {n : Net B} {size : ℕ} (now : ℤ) (r : Past) (v u : Valuation) → DirectOnly m → Laid m n size → ((e : ℕ) → e < length n.kinds → v e ≡ u e) → NoFault m n now r v → NoFault m n now r u
-no_fault_kept {n = n} now r v u d l a f j x = f j (same_fault u v d l (λ e w. sym (a e (reads_within (Action.Emit j) l (within n.ps j x.node x.node_is) e w))) x)
+no_fault_kept {n = n} now r v u d l a f j x = f j (same_fault u v d l (λ e w. sym (a e (reads_within (Action.Emit j) l (slice_get_within n.ps j x.node x.node_is) e w))) x)
 
 some_of : {X : Type 0} (x : Option X) → lacks x ≡ false → IsSome x
 some_of (Some x) e = refl

@@ -1,6 +1,8 @@
 -- The pass keeps what it has made true.
 use Rattle.std.proofs.Common.{ℕ, nat_le, zero, suc, ◌+◌, ◌-◌, ◌<◌, ◌≤◌, ◌≡◌, ◌⊎◌, refl, sym, ap, ◌∙◌, subst, Bool, true, false, cond, ℤ, List, [], ◌∷◌, length, take, drop, get_or, arith, Option, Some, None, slice_get, inl, inr, IfSome, nat_lt}
+use Rattle.cdl_source.proofs.Cases.{by_lt, by_bool}
 use Rattle.std.proofs.lemmas.Bool.{false≢true, lt-leb, le-leb}
+use Rattle.std.proofs.lemmas.Option.{slice_get_within, none-some, slice_get-get_or}
 use Rattle.cdl_values.specs.declared.value.ValueType.{ValueType}
 use Rattle.cdl_values.specs.History.{History, IsValue, SameDirect, no_value}
 use Rattle.cdl_pass.specs.declared.net.Node.{Node}
@@ -8,7 +10,7 @@ use Rattle.cdl_pass.specs.declared.net.Action.{Action}
 use Rattle.cdl_pass.specs.Windows.{state_of}
 use Rattle.cdl_pass.specs.Net.{Blocks, Net, Fits, Laid, Planned, Names, Reads, Writes, sort_at}
 use Rattle.cdl_pass.specs.Tick.{Valuation, Past, words_from, ready, given, lacks, has_fault, out_word, Gives, Meets, Solves, Fault, FaultIs, FirstFault, NoFault, Starts, IsTyped, lesser, lesser_of, spent, spent_in, Typed, Passed}
-use Rattle.cdl_pass.proofs.Ready.{by_lt, by_bool, same_ready, length-words_from, word_from, drop_later}
+use Rattle.cdl_pass.proofs.Ready.{same_ready, length-words_from, word_from, drop_later}
 
 -- the inputs that are not direct have no part in the meaning
 abbrev pub DirectOnly : {B : Type 0} → Blocks B → Type 0
@@ -18,11 +20,6 @@ pub there : {X : Type 0} (xs : List X) (i : ℕ) → i < length xs → (x : X) �
 there [] i h = absurd (omega arith)
 there (x ∷ xs) zero h = (x, refl)
 there (x ∷ xs) (suc i) h = there xs i (omega arith)
-
-pub within : {X : Type 0} (xs : List X) (i : ℕ) (x : X) → slice_get xs i ≡ Some x → i < length xs
-within [] i x e = cc
-within (y ∷ xs) zero x e = omega arith
-within (y ∷ xs) (suc i) x e = let h : i < length xs = within xs i x e in omega arith
 
 pub one_there : {X : Type 0} (xs : List X) (i : ℕ) (x y : X) → slice_get xs i ≡ Some x → slice_get xs i ≡ Some y → x ≡ y
 one_there xs i x y e f = let g : Some x ≡ Some y = sym e ∙ f in cc
@@ -79,13 +76,10 @@ fault_of {n = n} v b (Action.Emit j) l h f e =
     let p = there n.ps j h in
     (j, refl, record { block = x.0; node = p.0; block_is = x.1; node_is = p.1; faults = sym (f x.0 p.0 x.1 p.1) ∙ e })
 
-none_some : {j : ℕ} → None ≡ Some j → ⊥
-none_some e = cc
-
 pub passed_start : {B : Type 0} {m : Blocks B} {n : Net B} {now : ℤ} {row : List ℤ} {r : Past} {v : Valuation} → Passed m n now row r 0 v None
 passed_start = record {
   solved = λ q o h. absurd (omega arith);
-  is = λ j e. absurd (none_some e);
+  is = λ j e. absurd (none-some j e);
   each = λ q j h. absurd (omega arith);
 }
 
@@ -97,7 +91,7 @@ typed_start = record {
 
 -- the lesser of those found so far and the next
 lesser_le : (least : Option ℕ) (j : ℕ) → (l : ℕ) × (lesser_of least j ≡ Some l) × (l ≤ j) × ((o : ℕ) → least ≡ Some o → l ≤ o) × ((l ≡ j) ⊎ (least ≡ Some l))
-lesser_le None j = (j, refl, omega arith, λ o e. absurd (none_some e), inl refl)
+lesser_le None j = (j, refl, omega arith, λ o e. absurd (none-some o e), inl refl)
 lesser_le (Some o) j = by_lt j o
     (λ h. let f : nat_le o j ≡ false = lt-leb o j h in
     (j, rw f refl, omega arith, λ x e. let q : o ≡ x = cc in omega arith, inl refl))
@@ -181,12 +175,12 @@ passed_next {B} {m} {n} {size} {now} {row} {r} {i} {least} v u new o b d la pl f
 
 -- after the whole plan
 pub all_solved : {B : Type 0} {m : Blocks B} {n : Net B} {now : ℤ} {row : List ℤ} {r : Past} {i : ℕ} {v : Valuation} {least : Option ℕ} → Passed m n now row r i v least → length n.actions ≤ i → Solves m n now row r v
-all_solved {n = n} f h q o e = f.solved q o (let k = within n.actions q o e in omega (arith, k, h)) e
+all_solved {n = n} f h q o e = f.solved q o (let k = slice_get_within n.actions q o e in omega (arith, k, h)) e
 
 all_least : {B : Type 0} {m : Blocks B} {n : Net B} {now : ℤ} {row : List ℤ} {r : Past} {i : ℕ} {v : Valuation} {least : Option ℕ} → Planned n → Passed m n now row r i v least → length n.actions ≤ i → (j : ℕ) → Fault m n now r v j → (l : ℕ) × (least ≡ Some l) × (l ≤ j)
 all_least {n = n} pl f h j x =
-    let a = pl.all j (within n.ps j x.node x.node_is) in
-    let k = within n.actions a.0 (Action.Emit j) a.1 in
+    let a = pl.all j (slice_get_within n.ps j x.node x.node_is) in
+    let k = slice_get_within n.actions a.0 (Action.Emit j) a.1 in
     f.each a.0 j (omega (arith, k, h)) a.1 x
 
 pub first_fault : {B : Type 0} {m : Blocks B} {n : Net B} {now : ℤ} {row : List ℤ} {r : Past} {i : ℕ} {v : Valuation} (least : Option ℕ) → Planned n → Passed m n now row r i v least → length n.actions ≤ i → IfSome least (λ j. FirstFault m n now r v j)
@@ -197,18 +191,18 @@ first_fault (Some l) pl f h = record {
 }
 
 pub no_fault : {B : Type 0} {m : Blocks B} {n : Net B} {now : ℤ} {row : List ℤ} {r : Past} {i : ℕ} {v : Valuation} (least : Option ℕ) → Planned n → Passed m n now row r i v least → length n.actions ≤ i → least ≡ None → NoFault m n now r v
-no_fault least pl f h e j x = let a = all_least pl f h j x in none_some (sym e ∙ a.1)
+no_fault least pl f h e j x = let a = all_least pl f h j x in none-some a.0 (sym e ∙ a.1)
 
 pub all_values : {B : Type 0} {n : Net B} {i : ℕ} {v : Valuation} {least : Option ℕ} → Planned n → Typed n i v least → length n.actions ≤ i → least ≡ None → (e : ℕ) → e < length n.kinds → IsValue (sort_at n.kinds e) (v e)
 all_values {n = n} pl f h t e l =
     let a = pl.each e l in
-    let k = within n.actions a.0 a.1 a.2 in
+    let k = slice_get_within n.actions a.0 a.1 a.2 in
     f.whole t a.0 a.1 e (omega (arith, k, h)) a.2 a.3
 
 pub all_typed : {B : Type 0} {n : Net B} {i : ℕ} {v : Valuation} {least : Option ℕ} → Planned n → Typed n i v least → length n.actions ≤ i → (e : ℕ) → e < length n.kinds → IsTyped n.kinds v e
 all_typed {n = n} pl f h e l =
     let a = pl.each e l in
-    let k = within n.actions a.0 a.1 a.2 in
+    let k = slice_get_within n.actions a.0 a.1 a.2 in
     f.typed a.0 a.1 e (omega (arith, k, h)) a.2 a.3
 
 -- two valuations that meet the equation of a step, and agree where it reads, agree where it writes
@@ -235,7 +229,7 @@ agree now row r v u d l pl f g (suc i) q o e h is w = agree_step now row r v u o
 pub agree_all : {B : Type 0} {m : Blocks B} {n : Net B} {size : ℕ} (now : ℤ) (row : List ℤ) (r : Past) (v u : Valuation) → DirectOnly m → Laid m n size → Planned n → Solves m n now row r v → Solves m n now row r u → (e : ℕ) → e < length n.kinds → v e ≡ u e
 agree_all {n = n} now row r v u d l pl f g e h =
     let a = pl.each e h in
-    agree now row r v u d l pl f g (length n.actions) a.0 a.1 e (within n.actions a.0 a.1 a.2) a.2 a.3
+    agree now row r v u d l pl f g (length n.actions) a.0 a.1 e (slice_get_within n.actions a.0 a.1 a.2) a.2 a.3
 
 -- the states of the instances are as before
 pub starts_kept : {B : Type 0} {m : Blocks B} {n : Net B} {size : ℕ} (now : ℤ) (r : Past) (w u : List ℤ) → Laid m n size → drop (length n.kinds) u ≡ drop (length n.kinds) w → Starts m n now r w → Starts m n now r u
@@ -275,14 +269,8 @@ written_at ps j p e hp w =
     let b : e < p.outs + p.nout = subst (λ (q : Node). e < q.outs + q.nout) g w.3 in
     (e - p.outs, omega arith, omega arith)
 
--- the element at a place
-pub at : {X : Type 0} (xs : List X) (i : ℕ) (d : X) → i < length xs → slice_get xs i ≡ Some (get_or xs i d)
-at [] i d h = absurd (omega arith)
-at (x ∷ xs) zero d h = refl
-at (x ∷ xs) (suc i) d h = at xs i d (omega arith)
-
 pub here : {X : Type 0} (xs : List X) (i : ℕ) (x : X) → i < length xs → x ≡ get_or xs i x → slice_get xs i ≡ Some x
-here xs i x h e = at xs i x h ∙ ap (λ y. Some y) (sym e)
+here xs i x h e = slice_get-get_or xs i x h ∙ ap (λ y. Some y) (sym e)
 
 pub resized : {B : Type 0} {m : Blocks B} {n : Net B} {size k : ℕ} → Laid m n size → k ≡ size → Laid m n k
 resized {m} {n} l e = subst (λ (x : ℕ). Laid m n x) (sym e) l

@@ -1,7 +1,8 @@
 -- Words and values of windows, and what an emission makes of them.
-use Rattle.std.proofs.Common.{ℕ, zero, suc, ◌+◌, ◌-◌, ◌<◌, ◌≤◌, ◌≡◌, inl, inr, refl, sym, ap, ◌∙◌, subst, Bool, true, false, not, ◌&&◌, ℤ, pos, unsigned_abs, List, [], ◌∷◌, length, take, drop, replicate, arith, length-take, length-drop, Some, None, nat_lt}
+use Rattle.std.proofs.Common.{ℕ, zero, suc, ◌+◌, ◌-◌, ◌<◌, ◌≤◌, ◌≡◌, inl, inr, refl, sym, ap, ◌∙◌, subst, true, false, not, ◌&&◌, ℤ, pos, unsigned_abs, List, [], ◌∷◌, length, take, drop, replicate, arith, length-take, length-drop, Some, None, nat_lt}
+use Rattle.cdl_source.proofs.Cases.{by_lt, by_bool}
 use Rattle.std.proofs.lemmas.List.{drop-drop, get_or-take, get_or-drop, get_or-replicate}
-use Rattle.std.proofs.lemmas.Bool.{cases_lt, false≢true}
+use Rattle.std.proofs.lemmas.Bool.{false≢true}
 use Rattle.std.proofs.lemmas.Bool.Decides.{Decides-int_eq}
 use Rattle.cdl_values.specs.declared.value.ValueType.{ValueType}
 use Rattle.cdl_values.specs.declared.value.ValueType.TheVariants.{Boolean, Integer, Real, Str, Enumeration}
@@ -10,13 +11,6 @@ use Rattle.cdl_pass.specs.declared.net.Node.{Node}
 use Rattle.cdl_pass.specs.Windows.{window, ins_of, outs_of, OnlyOuts}
 use Rattle.cdl_pass.specs.Net.{Blocks, Fits, sort_at}
 use Rattle.cdl_pass.specs.Tick.{Valuation, is_none, words_from, ready, given, has_fault, out_word, IsTyped}
-
-pub by_lt : {P : Type 0} (m n : ℕ) → (m < n → P) → (n ≤ m → P) → P
-by_lt {P} m n f g = elim (cases_lt m n) as (λ _. P) [ inl h ↦ f h | inr h ↦ g h ]
-
-pub by_bool : {P : Type 0} (b : Bool) → (b ≡ true → P) → (b ≡ false → P) → P
-by_bool true f g = f refl
-by_bool false f g = g refl
 
 pub none_is : (z : ℤ) → is_none z ≡ true → z ≡ no_value
 none_is z h = (Decides-int_eq z no_value).0 h

@@ -1,10 +1,10 @@
 -- States before the first tick, and sound states.
 use Rattle.std.proofs.Common.{ℕ, ◌+◌, ◌<◌, ◌≡◌, sym, ap, ◌∙◌, ℤ, negsuc, List, [], length, arith, Some, slice_get}
+use Rattle.cdl_source.proofs.Cases.{by_lt}
 use Rattle.cdl_pass.specs.declared.net.Node.{Node}
 use Rattle.cdl_pass.specs.Windows.{state_of, OnlyState}
 use Rattle.cdl_pass.specs.Net.{Blocks, Net, Laid}
 use Rattle.cdl_pass.specs.Absorb.{Began, Checked, FirstUnsound}
-use Rattle.cdl_pass.proofs.Ready.{by_lt}
 use Rattle.cdl_pass.proofs.Passing.{one_there}
 use Rattle.cdl_pass.proofs.Absorbing.{window_before}
 

@@ -5,23 +5,24 @@ use Rattle.std.proofs.lemmas.List.{get_or-drop}
 use Rattle.std.proofs.Math.Seq.{get_or-append_seam}
 use Rattle.std.proofs.lemmas.List.Folds.{drop_split}
 use Rattle.std.proofs.lemmas.Str.{IsUtf8-between, IsCharBoundary-before_ascii, IsCharBoundary-after_ascii, is_utf8-from_IsUtf8}
+use Rattle.std.proofs.lemmas.Bool.{and_from}
 use Rattle.std.specs.List.{list_all}
 use Rattle.std.specs.Str.{bytes_eq, IsUtf8, IsCharBoundary}
-use Rattle.cdl_source.specs.Identifiers.{is_digit, is_word_byte, is_initial, is_keyword, is_identifier}
+use Rattle.cdl_source.specs.Identifiers.{is_word_byte, is_initial, is_keyword, is_identifier}
 use Rattle.cdl_source.specs.declared.place.TokenSort.{TokenSort}
 use Rattle.cdl_source.specs.declared.place.TokenSort.TheVariants as sort
 use Rattle.cdl_source.specs.declared.place.Token.{Token}
-use Rattle.cdl_decimal.specs.Spells.{AllDigits, IsDigit}
+use Rattle.cdl_decimal.specs.Spells.{AllDigits}
 use Rattle.cdl_lex.specs.Spellings.{Bytes, Spelling, identifier, keyword, integer, real, string, symbol, pair}
 use Rattle.cdl_lex.specs.TokenList.{TokenList, text_of, LiesWithin, LieWithin}
 use Rattle.cdl_lex.specs.Limits.{IsPast}
 use Rattle.cdl_lex.specs.Texts.{AreSpelled, FitLimits, AreTokens}
+use Rattle.cdl_lex.proofs.Spelled.{digit_is}
 use Rattle.cdl_tree.specs.declared.terminal.Terminal.{Terminal}
 use Rattle.cdl_tree.specs.declared.terminal.Terminal.TheVariants as the
 use Rattle.cdl_tree.specs.Terminals as terminals
 use Rattle.cdl_tree.specs.Terminals.{lookup, terminal_of, lexeme, lexemes}
 use Rattle.cdl_tree.specs.Spelled.{begins_with_digit, is_spelled_as, are_spelled}
-use Rattle.cdl_tree.proofs.Shapes.{both}
 use Rattle.cdl_reading.specs.Reading.{word_of}
 
 -- ---- words and symbols, whose texts are of no account
@@ -62,9 +63,6 @@ symbol_spelled text = bare_spelled (lookup terminals.symbols text) text (found_b
 
 -- ---- numbers and identifiers
 
-digit_is : (c : ℕ) → IsDigit c → is_digit c ≡ true
-digit_is c d = let low = d.0 in let high = d.1 in grind (arith, nat_tests)
-
 digits_begin : (ds rest : Bytes) → 0 < length ds → AllDigits ds → begins_with_digit (ds ++ rest) ≡ true
 digits_begin [] rest some all = let never : ⊥ = omega arith in absurd never
 digits_begin (d ∷ ds) rest some all = digit_is d all.0
@@ -81,7 +79,7 @@ not_past n m f = go (nat_le n m) refl
     go false e = absurd (f (grind (arith, nat_tests)))
 
 is_identifier_of : (c : ℕ) (cs : Bytes) → is_initial c ≡ true → list_all is_word_byte cs ≡ true → is_keyword (c ∷ cs) ≡ false → (IsPast sort.Identifier (c ∷ cs) → ⊥) → is_identifier (c ∷ cs) ≡ true
-is_identifier_of c cs i all plain fits = both _ _ (both _ _ (not_past (length (c ∷ cs)) 64 fits) (both _ _ i all)) (ap not plain)
+is_identifier_of c cs i all plain fits = and_from _ _ (and_from _ _ (not_past (length (c ∷ cs)) 64 fits) (and_from _ _ i all)) (ap not plain)
 
 -- ---- strings
 
@@ -114,7 +112,7 @@ spelled_by bytes t _ _ u within e (pair c d h) fits = symbol_spelled (c ∷ d �
 each_spelled : (bytes : Bytes) (ts : List Token) → IsUtf8 bytes → LieWithin bytes ts → AreSpelled bytes ts → FitLimits bytes ts → are_spelled (lexemes bytes ts) ≡ true
 each_spelled bytes [] u within spelled fits = refl
 each_spelled bytes (t ∷ ts) u within spelled fits =
-    both _ _ (spelled_by bytes t (text_of bytes t) t.sort u (within 0 t (omega arith)) refl (spelled 0 t (omega arith)) (fits 0 t (omega arith)))
+    and_from _ _ (spelled_by bytes t (text_of bytes t) t.sort u (within 0 t (omega arith)) refl (spelled 0 t (omega arith)) (fits 0 t (omega arith)))
     (each_spelled bytes ts u (λ k d less. within (suc k) d (omega (arith, less))) (λ k d less. spelled (suc k) d (omega (arith, less))) (λ k d less. fits (suc k) d (omega (arith, less))))
 
 pub words_spelled : (w : TokenList) → AreTokens w.bytes w.items → are_spelled (word_of w) ≡ true

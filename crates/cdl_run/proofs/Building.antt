@@ -1,8 +1,10 @@
 -- The lists of a runner, made item by item.
 use Rattle.std.proofs.Common.{ℕ, zero, suc, ◌+◌, ◌<◌, ◌≤◌, ◌≡◌, ◌&&◌, refl, sym, ap, ◌∙◌, subst, arith, ℤ, Bool, true, false, cond, not, List, [], ◌∷◌, ◌++◌, filter, length, map, sum, take, get_or, Some, slice_get}
+use Rattle.cdl_schedule.proofs.Passing.{numbers_after, filter_after}
+use Rattle.cdl_source.proofs.Cases.{by_lt}
 use Rattle.std.proofs.Math.Seq.{take-suc}
-use Rattle.std.proofs.lemmas.Bool.{false≢true}
-use Rattle.std.proofs.lemmas.List.{map-append}
+use Rattle.std.proofs.lemmas.Bool.{false≢true, and_parts, not-true}
+use Rattle.std.proofs.lemmas.List.{map-append, length_push, get_or_append_left, get_or_push, get_or_read}
 use Rattle.std.specs.Prelude.{◌↔◌, OnOk, Result, Ok, Err}
 use Rattle.cdl_values.specs.History.{History}
 use Rattle.cdl_values.specs.declared.value.Array.{Array}
@@ -23,29 +25,13 @@ use Rattle.cdl_connect.specs.Faults.{IsChecked}
 use Rattle.cdl_connect.specs.Nets.{element, is_block, is_elementary, network_of, no_element, words_at, words_of}
 use Rattle.cdl_connect.specs.WellFormed.{AreOfKinds}
 use Rattle.cdl_connect.proofs.Windows.{IsOf, inputs_are, of_kind, outputs_are}
-use Rattle.cdl_network.proofs.Inside.{and_both, kept_true}
+use Rattle.cdl_network.proofs.Inside.{kept_true}
 use Rattle.cdl_run.proofs.Laying.{numbers_in}
 use Rattle.cdl_pass.specs.declared.net.Node.{Node}
 use Rattle.cdl_pass.specs.Net.{Blocks}
-use Rattle.cdl_pass.proofs.Ready.{by_lt}
 use Rattle.cdl_run.specs.Words.{elementary_below, state_place}
 use Rattle.cdl_run.specs.inner.Laid.{AreBuilt, AreRanks, IsBlock, IsPlaced, node_of, rank}
 use Rattle.cdl_run.proofs.Laying.{sum_split}
-
--- one item more
-numbers_after : (a t : ℕ) → numbers a (suc t) ≡ numbers a t ++ (a + t) ∷ []
-numbers_after a zero = let q : a ≡ a + 0 = omega arith in ap (λ z. z ∷ []) q
-numbers_after a (suc t) = let q : suc a + t ≡ a + suc t = omega arith in ap (λ l. a ∷ l) (numbers_after (suc a) t ∙ ap (λ z. numbers (suc a) t ++ z ∷ []) q)
-
-filter_after : (f : ℕ → Bool) (xs : List ℕ) (z : ℕ) → filter f (xs ++ z ∷ []) ≡ cond (f z) (filter f xs ++ z ∷ []) (filter f xs)
-filter_after f [] z = refl
-filter_after f (x ∷ xs) z = ap (λ l. cond (f x) (x ∷ l) l) (filter_after f xs z) ∙ ends (f x) (f z) (filter f xs)
-  where
-    ends : (a b : Bool) (l : List ℕ) → cond a (x ∷ cond b (l ++ z ∷ []) l) (cond b (l ++ z ∷ []) l) ≡ cond b (cond a (x ∷ l) l ++ z ∷ []) (cond a (x ∷ l) l)
-    ends true true l = refl
-    ends true false l = refl
-    ends false true l = refl
-    ends false false l = refl
 
 pub filter_next : (f : ℕ → Bool) (t : ℕ) → filter f (numbers 0 (t + 1)) ≡ cond (f t) (filter f (numbers 0 t) ++ t ∷ []) (filter f (numbers 0 t))
 filter_next f t =
@@ -70,26 +56,13 @@ new_slice [] z (suc j) o h e = absurd (cc)
 new_slice (x ∷ xs) z zero o h e = absurd (omega (arith, h))
 new_slice (x ∷ xs) z (suc j) o h e = let r = new_slice xs z j o (omega (arith, h)) e in (ap suc r.0, r.1)
 
-longer_by_one : {A : Type 0} (xs : List A) (z : A) → length (xs ++ z ∷ []) ≡ length xs + 1
-longer_by_one [] z = refl
-longer_by_one (x ∷ xs) z = let r = longer_by_one xs z in omega (arith, r)
-
-old_get : (xs : List ℕ) (z k : ℕ) → k < length xs → get_or (xs ++ z ∷ []) k 0 ≡ get_or xs k 0
-old_get [] z k h = absurd (omega (arith, h))
-old_get (x ∷ xs) z zero h = refl
-old_get (x ∷ xs) z (suc k) h = old_get xs z k (omega (arith, h))
-
-new_get : (xs : List ℕ) (z : ℕ) → get_or (xs ++ z ∷ []) (length xs) 0 ≡ z
-new_get [] z = refl
-new_get (x ∷ xs) z = new_get xs z
-
 -- ranks
 ranks_add : (n : Net) (i : ℕ) (ranks : List ℕ) (r : ℕ) → AreRanks n i ranks → r ≡ rank n i → AreRanks n (i + 1) (ranks ++ r ∷ [])
 ranks_add n i ranks r a e = record {
-  size = let l = longer_by_one ranks r in let s = a.size in omega (arith, l, s);
+  size = let l = length_push ranks r in let s = a.size in omega (arith, l, s);
   each = λ q h. by_lt q i
-      (λ l. let s = a.size in old_get ranks r q (omega (arith, l, s)) ∙ a.each q l)
-      (λ l. let s : q ≡ length ranks = let z = a.size in omega (arith, h, l, z) in let t : i ≡ q = omega (arith, h, l) in ap (λ z. get_or (ranks ++ r ∷ []) z 0) s ∙ new_get ranks r ∙ e ∙ ap (rank n) t);
+      (λ l. let s = a.size in get_or_append_left ranks (r ∷ []) 0 q (omega (arith, l, s)) ∙ a.each q l)
+      (λ l. let s : q ≡ length ranks = let z = a.size in omega (arith, h, l, z) in let t : i ≡ q = omega (arith, h, l) in ap (λ z. get_or (ranks ++ r ∷ []) z 0) s ∙ get_or_push ranks r 0 (length ranks) refl ∙ e ∙ ap (rank n) t);
 }
 
 -- blocks
@@ -134,7 +107,7 @@ built_add {B} m n i t k v b p bs bs2 ps ps2 is is2 ranks ranks2 r s e block node
     }
   where
     count_more : {X : Type 0} (xs : List X) (x : X) → length xs ≡ length (elementary_below n i) → length (xs ++ x ∷ []) ≡ length (elementary_below n i ++ i ∷ [])
-    count_more xs x h = let l = longer_by_one xs x in let o = longer_by_one (elementary_below n i) i in omega (arith, l, o, h)
+    count_more xs x h = let l = length_push xs x in let o = length_push (elementary_below n i) i in omega (arith, l, o, h)
 
     each : (j c : ℕ) (x : B) (y : Node) → slice_get (elementary_below n i ++ i ∷ []) j ≡ Some c → slice_get (bs ++ b ∷ []) j ≡ Some x → slice_get (ps ++ p ∷ []) j ≡ Some y → IsPlaced m n c x y
     each j c x y h u w = by_lt j (length (elementary_below n i))
@@ -161,17 +134,13 @@ input_at : (n : Net) (i : ℕ) (t : NetInstance) (k : Kind) (v : List Array) (x 
 input_at n i t k v x o a b =
     let m = subst (λ l. In x l) (sym (inputs_are n i t k v o)) (numbers_in t.first (inputs k v).count x a b) in
     let h = kept_true (λ y. is_of (network_of n) i y && (element n y).input) x (network_of n).elements m in
-    (and_both (is_of (network_of n) i x) (element n x).input h).1
-
-not_true : (b : Bool) → not b ≡ true → b ≡ false
-not_true true e = absurd (false≢true e)
-not_true false e = refl
+    (and_parts (is_of (network_of n) i x) (element n x).input h).1
 
 output_at : (n : Net) (i : ℕ) (t : NetInstance) (k : Kind) (v : List Array) (x : ℕ) → IsOf n i t k v → t.first + (inputs k v).count ≤ x → x < t.first + (inputs k v).count + (outputs k v).count → (element n x).input ≡ false
 output_at n i t k v x o a b =
     let m = subst (λ l. In x l) (sym (outputs_are n i t k v o)) (numbers_in (t.first + (inputs k v).count) (outputs k v).count x a b) in
     let h = kept_true (λ y. is_of (network_of n) i y && not (element n y).input) x (network_of n).elements m in
-    not_true (element n x).input (and_both (is_of (network_of n) i x) (not (element n x).input) h).1
+    not-true (element n x).input (and_parts (is_of (network_of n) i x) (not (element n x).input) h).1
 
 -- the inputs of an instance of a kind end where the first output stands, or with its elements
 pub inputs_end : (n : Net) (i : ℕ) (t : NetInstance) (k : Kind) (v : List Array) (j : ℕ) → IsChecked n → AreOfKinds n → slice_get n.instances i ≡ Some t → t.body ≡ Elementary k v → ((l : ℕ) → l < j → (element n (t.first + l)).input ≡ true) → j ≤ t.count → (j < t.count → (element n (t.first + j)).input ≡ false) → j ≡ (inputs k v).count
@@ -204,14 +173,8 @@ rows_next f g t xs xs2 a e = e ∙ ap (λ l. cond (f t) (l ++ g t ∷ []) l) a �
 pub block_is : {B : Type 0} (m : Blocks B) (b : B) (k : Kind) (v w : List Array) → v ≡ w → m.inputs b ≡ inputs k v → m.results b ≡ outputs k v → m.width b ≡ state_words k v → m.meaning b ≡ meaning k v → ((state : List ℤ) (h : History) → m.stands b state h ↔ Stands k v state h) → ((state : List ℤ) (last : ℤ) → m.sound b state last ↔ IsSound k v state last) → IsBlock m b k w
 block_is m b k v w e i r d f s t = subst (λ z. IsBlock m b k z) e (record { inputs = i; results = r; width = d; meaning = f; stands = s; sound = t })
 
--- what is read at a place
-pick : (xs : List NetElement) (x : ℕ) (d e : NetElement) → x < length xs → e ≡ get_or xs x e → get_or xs x d ≡ e
-pick [] x d e h q = absurd (omega (arith, h))
-pick (y ∷ xs) zero d e h q = sym q
-pick (y ∷ xs) (suc x) d e h q = pick xs x d e (omega (arith, h)) q
-
 pub element_is : (n : Net) (xs : List NetElement) (x : ℕ) (e : NetElement) → xs ≡ n.elements → x < length n.elements → e ≡ get_or xs x e → element n x ≡ e
-element_is n xs x e q h r = pick n.elements x no_element e h (r ∙ ap (λ l. get_or l x e) q)
+element_is n xs x e q h r = sym (get_or_read n.elements x e h (r ∙ ap (λ l. get_or l x e) q) no_element)
 
 pub no_input : (n : Net) (x : ℕ) (e g : NetElement) → element n x ≡ e → e ≡ g → g.input ≡ false → (element n x).input ≡ false
 no_input n x e g q r h = ap (λ (y : NetElement). y.input) (q ∙ r) ∙ h

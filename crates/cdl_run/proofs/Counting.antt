@@ -1,5 +1,6 @@
 -- A tick emits each elementary instance once.
 use Rattle.std.proofs.Common.{ℕ, zero, suc, ◌<◌, ◌≤◌, ◌≡◌, ◌⊎◌, ◌==◌, inl, inr, refl, sym, ap, ◌∙◌, subst, arith, true, false, cond, List, [], ◌∷◌, length, Some, slice_get}
+use Rattle.cdl_source.proofs.Cases.{by_lt, by_bool}
 use Rattle.std.proofs.lemmas.Bool.{eqb-true, eqb-false}
 use Rattle.std.proofs.lemmas.Option.{slice_get_within}
 use Rattle.cdl_values.specs.declared.value.ValueType.{ValueType}
@@ -12,10 +13,10 @@ use Rattle.cdl_pass.specs.declared.net.Action.{Action}
 use Rattle.cdl_pass.specs.declared.net.Node.{Node}
 use Rattle.cdl_pass.specs.Net.{Blocks}
 use Rattle.cdl_pass.specs.Tick.{spent_in}
-use Rattle.cdl_pass.proofs.Ready.{by_bool, by_lt}
 use Rattle.cdl_schedule.specs.declared.steps.Step.{Step}
 use Rattle.cdl_schedule.specs.declared.steps.Step.TheVariants.{Input, Copy, Emit}
 use Rattle.cdl_schedule.specs.Passes.{IsStep}
+use Rattle.cdl_schedule.proofs.Passing.{numbers_length}
 use Rattle.cdl_run.specs.Words.{elementary_below}
 use Rattle.cdl_run.specs.inner.Laid.{action_of, rank}
 use Rattle.cdl_run.specs.inner.Setting.{IsSet}
@@ -114,10 +115,6 @@ same_step n (Copy s x) (Emit i) a b e = absurd (cc)
 same_step n (Emit i) (Input l y) a b e = absurd (cc)
 same_step n (Emit i) (Copy u y) a b e = absurd (cc)
 same_step n (Emit i) (Emit j) a b e = let p : rank n i ≡ rank n j = cc in ap Emit (same_rank n i j a.1 b.1 p)
-
-numbers_length : (a n : ℕ) → length (numbers a n) ≡ n
-numbers_length a zero = refl
-numbers_length a (suc n) = ap suc (numbers_length (suc a) n)
 
 pub one_emit_each : {B : Type 0} {m : Blocks B} {n : Net} {bs : List B} {ps : List Node} {actions : List Action} {kinds rows : List ValueType} → IsSet m n bs ps actions kinds rows → spent_in actions (length actions) ≡ length (elementary_below n (length n.instances))
 one_emit_each {n = n} {ps = ps} {actions} s =

@@ -4,7 +4,9 @@ use Rattle.std.specs.List.{fold}
 use Rattle.std.specs.Prelude.{nat_lt, slice_index_or}
 use Rattle.std.proofs.lemmas.Bool.{false≢true, eqb-true, lt-ltb, le-ltb}
 use Rattle.std.proofs.lemmas.Option.{slice_get_within}
+use Rattle.std.proofs.lemmas.List.{length-map}
 use Rattle.cdl_source.specs.declared.rules.TheConstants.{TWO_SOURCES_OR_SINKS, TYPES_DIFFER, UNITS_DIFFER}
+use Rattle.cdl_source.proofs.Cases.{by_lt, by_bool}
 use Rattle.cdl_values.specs.History.{Signature}
 use Rattle.cdl_values.specs.declared.value.ValueType.{ValueType}
 use Rattle.cdl_values.specs.declared.value.ValueType.TheVariants.{Boolean, Integer, Real, Str, Enumeration}
@@ -27,7 +29,6 @@ use Rattle.cdl_pass.specs.declared.net.Node.{Node}
 use Rattle.cdl_pass.specs.Net.{Blocks, Fits, Laid, Names, Planned, net_of, sort_at}
 use Rattle.cdl_pass.specs.Net as pass
 use Rattle.cdl_pass.proofs.Passing.{there, one_there}
-use Rattle.cdl_pass.proofs.Ready.{by_bool, by_lt}
 use Rattle.cdl_schedule.specs.declared.steps.Step.{Step}
 use Rattle.cdl_schedule.specs.declared.steps.Step.TheVariants.{Input, Copy, Emit}
 use Rattle.cdl_schedule.specs.Passes.{IsStep, Reads, Writes}
@@ -68,10 +69,6 @@ types_length n = map_length (λ (e : NetElement). e.value_type) n.elements
     map_length : {X Y : Type 0} (f : X → Y) (xs : List X) → length (map f xs) ≡ length xs
     map_length f [] = refl
     map_length f (x ∷ xs) = ap suc (map_length f xs)
-
-pub row_length : {X Y : Type 0} (f : X → Y) (xs : List X) → length (map f xs) ≡ length xs
-row_length f [] = refl
-row_length f (x ∷ xs) = ap suc (row_length f xs)
 
 few_reads : (d : Bool) (c : ℕ) → cond d c 0 ≤ c
 few_reads true c = omega arith
@@ -177,7 +174,7 @@ named {n = n} s (Input k x) h =
     let a = has_inside n x (Row k) s.checked h in
     let e = types_length n in
     let l = slice_get_within (root_inputs (network_of n)) k x h in
-    let r = row_length (network_of n).value_type (root_inputs (network_of n)) in
+    let r = length-map (root_inputs (network_of n)) (network_of n).value_type in
     (omega (arith, l, r), omega (arith, a, e), read_mapped (network_of n).value_type (root_inputs (network_of n)) k x Boolean h ∙ sym (type_is n x))
 named {n = n} s (Copy y x) h =
     let a = has_inside n x (From y) s.checked h in

@@ -1,6 +1,8 @@
 -- A pass that meets its equations meets those of the network.
-use Rattle.std.proofs.Common.{ℕ, zero, suc, ◌+◌, ◌<◌, ◌≤◌, ◌≡◌, refl, sym, ap, ◌∙◌, subst, arith, ℤ, true, false, List, [], ◌∷◌, length, map, get_or, Option, Some, None, slice_get}
-use Rattle.std.proofs.lemmas.Option.{slice_get_within}
+use Rattle.std.proofs.Common.{ℕ, zero, suc, ◌+◌, ◌<◌, ◌≤◌, ◌≡◌, refl, sym, ap, ◌∙◌, subst, arith, ℤ, true, false, List, [], ◌∷◌, length, map, Option, Some, None, slice_get}
+use Rattle.cdl_source.proofs.Cases.{by_bool}
+use Rattle.std.proofs.lemmas.Option.{slice_get_within, get_or_from_slice_get}
+use Rattle.std.proofs.lemmas.Bool.{and_parts}
 use Rattle.cdl_values.specs.History.{IsHistory, IsLater, IsTime, no_value, word}
 use Rattle.cdl_values.specs.declared.value.Array.{Array}
 use Rattle.cdl_values.specs.declared.value.ValueType.{ValueType}
@@ -10,7 +12,6 @@ use Rattle.cdl_kinds.specs.Ports.{inputs, outputs}
 use Rattle.cdl_network.specs.Lists.{numbers}
 use Rattle.cdl_network.specs.Dependence.{Origin, Row, From, Out, HasOrigin, root_inputs}
 use Rattle.cdl_network.specs.Ticks.{Meets, Seen, Tick, answer, first_fault, given as given_word, history, is_faulty, rule}
-use Rattle.cdl_network.proofs.Inside.{and_both}
 use Rattle.cdl_network.proofs.Places.{first_number, no_number, of_slice_numbers}
 use Rattle.cdl_connect.specs.declared.net.Net.{Net}
 use Rattle.cdl_connect.specs.declared.net.NetInstance.{NetInstance}
@@ -21,7 +22,7 @@ use Rattle.cdl_pass.specs.declared.net.Node.{Node}
 use Rattle.cdl_pass.specs.Net.{Blocks, net_of}
 use Rattle.cdl_pass.specs.Tick.{Fault, FirstFault, IsTyped, NoFault, Solves, given, has_fault, is_none, out_word}
 use Rattle.cdl_pass.proofs.Passing.{there}
-use Rattle.cdl_pass.proofs.Ready.{by_bool, none_no_value, value_some}
+use Rattle.cdl_pass.proofs.Ready.{none_no_value, value_some}
 use Rattle.cdl_schedule.specs.declared.steps.Step.TheVariants.{Input, Copy, Emit}
 use Rattle.cdl_schedule.specs.inner.Passed.{step_by}
 use Rattle.cdl_schedule.proofs.Loops.{has_inside, some_at}
@@ -38,11 +39,6 @@ pub mapped : {X Y : Type 0} (f : X → Y) (xs : List X) (j : ℕ) (x : X) → sl
 mapped f [] j x e = absurd (cc)
 mapped f (y ∷ xs) zero x e = let q : y ≡ x = cc in ap (λ z. Some (f z)) q
 mapped f (y ∷ xs) (suc j) x e = mapped f xs j x e
-
-pub get_there : (xs : List ℕ) (j x : ℕ) → slice_get xs j ≡ Some x → get_or xs j 0 ≡ x
-get_there [] j x e = absurd (cc)
-get_there (y ∷ xs) zero x e = cc
-get_there (y ∷ xs) (suc j) x e = get_there xs j x e
 
 -- the step that gives an element its value
 pub origin_action : {B : Type 0} {m : Blocks B} {n : Net} {bs : List B} {ps : List Node} {actions : List Action} {kinds rows : List ValueType} (s : IsSet m n bs ps actions kinds rows) (x : ℕ) (c : Origin ℕ ℕ) → HasOrigin (network_of n) x c → (q : ℕ) × (slice_get actions q ≡ Some (action_of n (step_by x c)))
@@ -94,7 +90,7 @@ pub record Now {B : Type 0} (m : Blocks B) (n : Net) (bs : List B) (ps : List No
   pub solves : Solves m (net_of bs ps actions kinds rows) u.time u.row (past_at n past) w
 
 pub past_is : (n : Net) (past : List (Seen ℕ)) (i : ℕ) → slice_get (elementary_below n (length n.instances)) (rank n i) ≡ Some i → past_at n past (rank n i) ≡ history (network_of n) past i
-past_is n past i e = ap (λ z. history (network_of n) past z) (get_there (elementary_below n (length n.instances)) (rank n i) i e)
+past_is n past i e = ap (λ z. history (network_of n) past z) (get_or_from_slice_get (elementary_below n (length n.instances)) (rank n i) i 0 e)
 
 read_word : (ys : List ℤ) (k : ℕ) → k < length ys → slice_get ys k ≡ Some (word ys k)
 read_word [] k h = absurd (omega (arith, h))
@@ -157,7 +153,7 @@ meets {B} {m} {n} {bs} {ps} {actions} {kinds} {rows} {past} {u} {w} a x c h = go
 
 -- faults
 faulty_elementary : (n : Net) (past : List (Seen ℕ)) (u : Tick) (w : ℕ → ℤ) (i : ℕ) → is_faulty (network_of n) past u (seen_by w) i ≡ true → (network_of n).elementary i ≡ true
-faulty_elementary n past u w i e = (and_both ((network_of n).elementary i) _ e).0
+faulty_elementary n past u w i e = (and_parts ((network_of n).elementary i) _ e).0
 
 pub faulty : {B : Type 0} {m : Blocks B} {n : Net} {bs : List B} {ps : List Node} {actions : List Action} {kinds rows : List ValueType} (past : List (Seen ℕ)) (u : Tick) (w : ℕ → ℤ) (i : ℕ) → IsSet m n bs ps actions kinds rows → is_faulty (network_of n) past u (seen_by w) i ≡ true → Fault m (net_of bs ps actions kinds rows) u.time (past_at n past) w (rank n i)
 faulty {m = m} {n} past u w i s e =
@@ -175,7 +171,7 @@ first {m = m} {n} past u w j i s e f =
     let o = of_rank n j i (length n.instances) e in
     let q = s.placed.each j i f.is.block f.is.node e f.is.block_is f.is.node_is in
     let d = fault_is m n i q.t q.k q.v f.is.block f.is.node past u w (windowed s q) o.0 in
-    let here : is_faulty (network_of n) past u (seen_by w) i ≡ true = d ∙ ap (λ z. has_fault m f.is.block f.is.node (history (network_of n) past z) u.time w) (sym (get_there (elementary_below n (length n.instances)) j i e)) ∙ f.is.faults in
+    let here : is_faulty (network_of n) past u (seen_by w) i ≡ true = d ∙ ap (λ z. has_fault m f.is.block f.is.node (history (network_of n) past z) u.time w) (sym (get_or_from_slice_get (elementary_below n (length n.instances)) j i 0 e)) ∙ f.is.faults in
     let before : (l : ℕ) → 0 ≤ l → l < i → is_faulty (network_of n) past u (seen_by w) l ≡ false = λ l a b. by_bool (is_faulty (network_of n) past u (seen_by w) l)
     (λ t.
     let x = f.least (rank n l) (faulty past u w l s t) in

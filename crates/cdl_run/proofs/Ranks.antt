@@ -1,9 +1,10 @@
 -- The elementary instances of a net, in preorder, and the number of each among them.
 use Rattle.std.proofs.Common.{ℕ, suc, ◌+◌, ◌-◌, ◌<◌, ◌≡◌, refl, ap, ◌∙◌, arith, Bool, true, cond, List, [], ◌∷◌, ◌++◌, filter, length, Some, slice_get}
+use Rattle.std.proofs.lemmas.List.Elements.{filter-append}
 use Rattle.cdl_network.specs.Lists.{numbers}
 use Rattle.cdl_network.proofs.Checking.{apart_filter, once}
 use Rattle.cdl_network.proofs.Inside.{in_filter, in_slice, kept_true}
-use Rattle.cdl_network.proofs.Places.{filter_both, numbers_split}
+use Rattle.cdl_network.proofs.Places.{numbers_split}
 use Rattle.cdl_connect.proofs.Networks.{apart_numbers, below_all}
 use Rattle.cdl_connect.specs.declared.net.Net.{Net}
 use Rattle.cdl_connect.specs.Nets.{network_of}
@@ -22,7 +23,7 @@ split_at n i top e h =
     let z : 0 + i ≡ i = omega arith in (
       filter f (numbers (suc i) (top - (i + 1))),
       ap (filter f) (numbers_split 0 top i (suc (top - (i + 1))) q ∙ ap (λ x. numbers 0 i ++ numbers x (suc (top - (i + 1)))) z)
-          ∙ filter_both f (numbers 0 i) (numbers i (suc (top - (i + 1))))
+          ∙ filter-append f (numbers 0 i) (numbers i (suc (top - (i + 1))))
           ∙ ap (λ b. filter f (numbers 0 i) ++ cond b (i ∷ filter f (numbers (suc i) (top - (i + 1)))) (filter f (numbers (suc i) (top - (i + 1))))) e,
     )
 

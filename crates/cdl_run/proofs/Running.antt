@@ -1,6 +1,6 @@
 -- From tick to tick: what stands before a tick stands after it, with the tick.
 use Rattle.std.proofs.Common.{ℕ, suc, ◌+◌, ◌<◌, ◌≤◌, ◌≡◌, refl, sym, ap, ◌∙◌, subst, arith, ℤ, negsuc, ◌<ℤ◌, true, List, [], ◌∷◌, ◌++◌, length, take, drop, Some, slice_get}
-use Rattle.std.proofs.lemmas.Option.{slice_get_within}
+use Rattle.std.proofs.lemmas.Option.{slice_get_within, get_or_from_slice_get}
 use Rattle.cdl_values.specs.History.{History, IsHistory, IsLater, IsValue, Meaning, Signature, tick, word}
 use Rattle.cdl_values.specs.declared.value.Array.{Array}
 use Rattle.cdl_values.specs.declared.value.ValueType.{ValueType}
@@ -32,7 +32,7 @@ use Rattle.cdl_run.specs.Words.{elementary_below, state_at, state_place, valuati
 use Rattle.cdl_run.specs.Runs.{AreShown, HasFault, RunStands, StandsFor, last_time}
 use Rattle.cdl_run.specs.inner.Laid.{IsPlaced, element_types, rank}
 use Rattle.cdl_run.specs.inner.Setting.{IsSet, past_at}
-use Rattle.cdl_run.proofs.Meeting.{Now, calm, first, get_there, is_of, meets, past_is, seat}
+use Rattle.cdl_run.proofs.Meeting.{Now, calm, first, is_of, meets, past_is, seat}
 use Rattle.cdl_run.proofs.Values.{words_known}
 
 -- the instance of a block
@@ -72,7 +72,7 @@ starts {m = m} {n} {ts = ts} {w = w} now s l r = λ j b p hb hp.
     let q = i.2 in
     let h : History = history (network_of n) (after [] ts r.values) i.0 in
     let z = stood r i.0 q.t q.k q.v q.there q.body in
-    let e : history (network_of n) (after [] ts r.values) i.0 ≡ past_at n (after [] ts r.values) j = ap (λ x. history (network_of n) (after [] ts r.values) x) (sym (get_there (elementary_below n (length n.instances)) j i.0 i.1)) in
+    let e : history (network_of n) (after [] ts r.values) i.0 ≡ past_at n (after [] ts r.values) j = ap (λ x. history (network_of n) (after [] ts r.values) x) (sym (get_or_from_slice_get (elementary_below n (length n.instances)) j i.0 0 i.1)) in
     let stands : m.stands b (state_of p w) h = subst (λ x. m.stands b x h) (sym (state_is w q)) ((q.block.stands (state_at n i.0 w) h).1 z.1) in
     subst (λ x. IsHistory (m.inputs b) (m.meaning b) x × IsLater now x × m.stands b (state_of p w) x) e
     (kind_history h q z.0, later_of n (after [] ts r.values) now i.0 (subst (λ x. x <ℤ now) r.last_is l), stands)

@@ -1,7 +1,8 @@
 -- What a pass needs of a runner, and what a runner has of it.
 use Rattle.std.proofs.Common.{ℕ, zero, suc, ◌<◌, ◌≡◌, refl, sym, ap, ◌∙◌, subst, arith, ℤ, negsuc, ◌<ℤ◌, List, [], ◌∷◌, ◌++◌, length, get_or, Option, Some, None, slice_get}
+use Rattle.cdl_schedule.proofs.Passing.{numbers_length}
 use Rattle.std.specs.List.{refill}
-use Rattle.std.proofs.lemmas.List.{length-replicate}
+use Rattle.std.proofs.lemmas.List.{length-replicate, length-map}
 use Rattle.std.specs.Option.{option_map}
 use Rattle.std.specs.Prelude.{replicate, pos}
 use Rattle.cdl_network.specs.Rules.{word_count}
@@ -28,7 +29,7 @@ use Rattle.cdl_run.specs.Runs.{HasFault, IsRow, RunStands, tick_at}
 use Rattle.cdl_run.specs.inner.Laid.{element_types, row_types}
 use Rattle.cdl_run.specs.inner.Ready.{IsReady}
 use Rattle.cdl_run.specs.inner.Setting.{IsSet, past_at}
-use Rattle.cdl_run.proofs.Laying.{laid, planned, read_mapped, row_length}
+use Rattle.cdl_run.proofs.Laying.{laid, planned, read_mapped}
 use Rattle.cdl_run.proofs.Meeting.{Now}
 use Rattle.cdl_run.proofs.Running.{faults, histories, stands_first, stands_next, starts}
 
@@ -45,9 +46,9 @@ planned_at {m = m} {n} {bs} {ps} {actions} {kinds} {rows} s =
 
 row_of : (n : Net) (row : List ℤ) → IsRow n row → RowOf (row_types n) row
 row_of n row r = record {
-  size = r.size ∙ sym (row_length (network_of n).value_type (root_inputs (network_of n)));
+  size = r.size ∙ sym (length-map (root_inputs (network_of n)) (network_of n).value_type);
   each = λ k h.
-      let l = row_length (network_of n).value_type (root_inputs (network_of n)) in
+      let l = length-map (root_inputs (network_of n)) (network_of n).value_type in
       let x = there (root_inputs (network_of n)) k (omega (arith, h, l)) in
       subst (λ (t : ValueType). IsValue t (word row k)) (sym (read_mapped (network_of n).value_type (root_inputs (network_of n)) k x.0 ValueType.Boolean x.1)) (r.each k x.0 x.1);
 }
@@ -68,7 +69,7 @@ now_at {n = n} {kinds = kinds} now row w s ir time later ty r so = record {
 }
   where
     types_of : (n : Net) (kinds : List ValueType) → kinds ≡ element_types n → length kinds ≡ length n.elements
-    types_of n kinds e = ap length e ∙ row_length (λ x. x.value_type) n.elements
+    types_of n kinds e = ap length e ∙ length-map n.elements (λ x. x.value_type)
 
 pub tick_ok : {B : Type 0} {m : Blocks B} {n : Net} {bs : List B} {ps : List Node} {actions : List Action} {kinds rows : List ValueType} {ts : List Tick} {last : ℤ} {old : List ℤ} (now : ℤ) (row w : List ℤ) → IsSet m n bs ps actions kinds rows → IsRow n row → IsTime now → last <ℤ now → length w ≡ state_place n (length n.instances) → ((e : ℕ) → e < length kinds → IsTyped kinds (word w) e) → ((e : ℕ) → e < length kinds → IsValue (sort_at kinds e) (word w e))
     → (r : RunStands n ts last old) → ((past : Past) → Starts m (net_of bs ps actions kinds rows) now past old → Solves m (net_of bs ps actions kinds rows) now row past (word w)) → ((past : Past) → Starts m (net_of bs ps actions kinds rows) now past old → NoFault m (net_of bs ps actions kinds rows) now past (word w) × Stood m (net_of bs ps actions kinds rows) now past w)
@@ -77,7 +78,7 @@ tick_ok {n = n} {kinds = kinds} {ts = ts} now row w s ir time later size ty va r
     let st = starts now s later r in
     let past : Past = past_at n (after [] ts r.values) in
     let k = ok past st in
-    let l : length kinds ≡ length n.elements = ap length s.kinds_are ∙ row_length (λ x. x.value_type) n.elements in
+    let l : length kinds ≡ length n.elements = ap length s.kinds_are ∙ length-map n.elements (λ x. x.value_type) in
     stands_next (tick_at now row) w r (now_at now row w s ir time later ty r (so past st)) (omega (arith, size))
     (λ e h. subst (λ z. IsValue (sort_at z e) (word w e)) s.kinds_are (va e (omega (arith, h, l)))) k.0 k.1
 
@@ -145,10 +146,6 @@ start_ready {m = m} {n} {bs} {ps} {actions} {kinds} {rows} old new fault s e f =
 
 pub start_stands : {B : Type 0} {m : Blocks B} {n : Net} {bs : List B} {ps : List Node} {actions : List Action} {kinds rows : List ValueType} (old new : List ℤ) → IsSet m n bs ps actions kinds rows → length new ≡ length old → AllAt (net_of bs ps actions kinds rows) (λ j b p. m.stands b (state_of p new) []) → RunStands n [] (negsuc 0) (refill (length old) old new)
 start_stands {n = n} old new s e f = subst (λ w. RunStands n [] (negsuc 0) w) (sym (refill_all old new e)) (stands_first new s f)
-
-numbers_length : (a k : ℕ) → length (numbers a k) ≡ k
-numbers_length a zero = refl
-numbers_length a (suc k) = ap suc (numbers_length (suc a) k)
 
 pub words_total : (n : Net) → state_place n (length n.instances) ≡ word_count (network_of n)
 words_total n = let e = numbers_length 0 (length n.elements) in omega (arith, e)

@@ -1,5 +1,6 @@
 -- Words and valuations: what an instance gives by the words is what it gives in the network.
 use Rattle.std.proofs.Common.{ℕ, zero, suc, ◌+◌, ◌<◌, ◌≡◌, ◌&&◌, refl, sym, ap, ◌∙◌, arith, ℤ, true, false, cond, not, List, [], ◌∷◌, length, Option, Some, None}
+use Rattle.cdl_source.proofs.Cases.{by_bool}
 use Rattle.std.proofs.lemmas.Bool.{false≢true}
 use Rattle.cdl_values.specs.History.{History, Meaning, word}
 use Rattle.cdl_values.specs.declared.value.Array.{Array}
@@ -18,7 +19,7 @@ use Rattle.cdl_connect.proofs.Windows.{IsOf, direct_are, inputs_are, meaning_is}
 use Rattle.cdl_pass.specs.declared.net.Node.{Node}
 use Rattle.cdl_pass.specs.Net.{Blocks}
 use Rattle.cdl_pass.specs.Tick.{given, has_fault, is_none, lacks as lacks_one, ready, words_from}
-use Rattle.cdl_pass.proofs.Ready.{by_bool, length-words_from, ready_values}
+use Rattle.cdl_pass.proofs.Ready.{length-words_from, ready_values}
 use Rattle.cdl_run.specs.Words.{value_of}
 
 -- the values of the words

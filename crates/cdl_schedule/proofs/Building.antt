@@ -1,11 +1,8 @@
 -- Rows, as they are written.
-use Rattle.std.proofs.Common.{ℕ, ◌+◌, ◌-◌, ◌<◌, ◌≤◌, ◌≡◌, refl, sym, ap, ◌∙◌, subst, arith, Bool, true, false, inl, inr, List, [], ◌∷◌, ◌++◌, length, get_or, length-append}
-use Rattle.std.proofs.lemmas.Bool.{cases_lt}
-use Rattle.std.proofs.lemmas.List.{get_or_append_left, get_or-append_right}
+use Rattle.std.proofs.Common.{ℕ, ◌+◌, ◌-◌, ◌<◌, ◌≤◌, ◌≡◌, refl, sym, ap, ◌∙◌, subst, arith, Bool, true, false, List, [], ◌∷◌, ◌++◌, length, get_or}
+use Rattle.cdl_source.proofs.Cases.{by_lt}
+use Rattle.std.proofs.lemmas.List.{get_or_append_left, get_or-append_right, length_push}
 use Rattle.cdl_schedule.specs.inner.Rows.{AreRows, added}
-
-pub by_lt : {P : Type 0} (m n : ℕ) → (m < n → P) → (n ≤ m → P) → P
-by_lt {P} m n f g = elim (cases_lt m n) as (λ _. P) [ inl h ↦ f h | inr h ↦ g h ]
 
 pub old_at : (xs : List ℕ) (z k : ℕ) → k < length xs → get_or (xs ++ z ∷ []) k 0 ≡ get_or xs k 0
 old_at xs z k h = get_or_append_left xs (z ∷ []) 0 k h
@@ -15,9 +12,6 @@ new_at xs z k e =
     let r = get_or-append_right xs (z ∷ []) (length xs) k 0 refl (omega arith) in
     let i : k - length xs ≡ 0 = omega arith in
     r ∙ ap (λ j. get_or (z ∷ []) j 0) i
-
-pub longer : (xs : List ℕ) (z : ℕ) → length (xs ++ z ∷ []) ≡ length xs + 1
-longer xs z = length-append xs (z ∷ [])
 
 pub rows_start : (D : ℕ → ℕ → Type 0) (top : ℕ) (first edges : List ℕ) → length first ≡ 1 → get_or first 0 0 ≡ 0 → edges ≡ [] → AreRows D top 0 0 first edges
 rows_start D top first edges l z e =
@@ -47,7 +41,7 @@ rows_pass D top v x y first edges r f = record {
 
 pub rows_add : (D : ℕ → ℕ → Type 0) (top v x : ℕ) (first edges : List ℕ) → AreRows D top v x first edges → x < top → D x v → AreRows D top v (x + 1) first (edges ++ x ∷ [])
 rows_add D top v x first edges r b d =
-    let l = longer edges x in
+    let l = length_push edges x in
     record {
       size = r.size;
       rises = r.rises;
@@ -73,7 +67,7 @@ rows_add D top v x first edges r b d =
 pub rows_end : (D : ℕ → ℕ → Type 0) (top v x : ℕ) (first edges : List ℕ) → AreRows D top v x first edges → ((u : ℕ) → D u v → u < x) → AreRows D top (v + 1) 0 (first ++ length edges ∷ []) edges
 rows_end D top v x first edges r f =
     let z : ℕ = length edges in
-    let l = longer first z in
+    let l = length_push first z in
     let s = r.size in
     let old : (w : ℕ) → w < v + 1 → get_or (first ++ z ∷ []) w 0 ≡ get_or first w 0 = λ w h. old_at first z w (omega (arith, s)) in
     let new : get_or (first ++ z ∷ []) (v + 1) 0 ≡ z = new_at first z (v + 1) (omega (arith, s)) in

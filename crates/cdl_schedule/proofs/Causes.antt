@@ -1,7 +1,8 @@
 -- Where an element has its value from, and what an instance takes.
 use Rattle.std.proofs.Common.{ℕ, ◌+◌, ◌-◌, ◌<◌, ◌≤◌, ◌≡◌, ◌&&◌, refl, sym, ap, ◌∙◌, subst, arith, Bool, true, cond, not, inl, inr, List, [], ◌∷◌, ◌++◌, length, get_or, set, Option, Some, None, slice_get}
+use Rattle.cdl_source.proofs.Cases.{by_lt, by_bool}
 use Rattle.std.specs.Prelude.{nat_le, nat_lt}
-use Rattle.std.proofs.lemmas.Bool.{false≢true, cases_eq, eqb-true, eq-eqb, lt-ltb, ltb-true, leb-true, le-leb}
+use Rattle.std.proofs.lemmas.Bool.{false≢true, cases_eq, eqb-true, eq-eqb, lt-ltb, ltb-true, leb-true, le-leb, and_parts}
 use Rattle.std.proofs.lemmas.List.{get_or-set_same, get_or-set_other, length-set}
 use Rattle.std.proofs.lemmas.Option.{slice_get_within, slice_get_read}
 use Rattle.cdl_kinds.specs.declared.kind.Kind.{Kind}
@@ -11,8 +12,7 @@ use Rattle.cdl_network.specs.Dependence.{Origin, Row, From, Out, HasOrigin, dire
 use Rattle.cdl_network.specs.Lists.{In, has_some}
 use Rattle.cdl_network.specs.Rules.{is_wanted, sink_of}
 use Rattle.cdl_network.proofs.Checking.{count_one, arrives_once, one_origin, slice_in}
-use Rattle.cdl_network.proofs.Inside.{kept_in, kept_true, and_both, in_slice}
-use Rattle.cdl_network.proofs.Numbers.{bool_cases}
+use Rattle.cdl_network.proofs.Inside.{kept_in, kept_true, in_slice}
 use Rattle.cdl_network.proofs.Renaming.{in_map, of_map}
 use Rattle.cdl_connect.proofs.Networks.{in_all, net_closed, net_shaped, none_first}
 use Rattle.cdl_connect.specs.declared.net.Net.{Net}
@@ -24,7 +24,7 @@ use Rattle.cdl_connect.specs.declared.net.Body.TheVariants.{Composite, Elementar
 use Rattle.cdl_connect.specs.Faults.{IsChecked}
 use Rattle.cdl_connect.specs.Nets.{network_of, element, wire_in, is_block, is_elementary, is_direct_at, is_direct_port}
 use Rattle.cdl_schedule.specs.inner.Rows.{AreRows, AreSources, Precedes, added, cause_of, is_direct_body, vertex_count, vertex_of, wire_sink, wire_source}
-use Rattle.cdl_schedule.proofs.Building.{by_lt, rows_pass, rows_add, rows_next, rows_end}
+use Rattle.cdl_schedule.proofs.Building.{rows_pass, rows_add, rows_next, rows_end}
 use Rattle.cdl_schedule.proofs.Loops.{has_inside, direct_are, precedes_inside}
 
 -- kinds
@@ -78,8 +78,8 @@ cause_is n sources x f a h =
     let block : Bool = (network_of n).elementary ((network_of n).owner x) in
     let s : Option ℕ = Some (get_or sources x 0) in
     let out : Option ℕ = Some (m + (network_of n).owner x) in
-    bool_cases ((network_of n).input x)
-    (λ t. bool_cases up
+    by_bool ((network_of n).input x)
+    (λ t. by_bool up
     (λ p.
     let r = from_source n sources x f a h (ap (λ b. cond b up (not block)) t ∙ p) in
     (From r.0, r.1, sym (ap (λ b. cond b (cond up s None) (cond block out s)) t ∙ ap (λ b. cond b s None) p ∙ ap Some r.2)))
@@ -87,7 +87,7 @@ cause_is n sources x f a h =
     let root : is_root_input (network_of n) x ≡ true = ap (λ b. b && not up) t ∙ ap not p in
     let k = slice_in x (root_inputs (network_of n)) (kept_in (is_root_input (network_of n)) x (network_of n).elements i root) in
     (Row k.0, k.1, sym (ap (λ b. cond b (cond up s None) (cond block out s)) t ∙ ap (λ b. cond b s None) p))))
-    (λ t. bool_cases block
+    (λ t. by_bool block
     (λ p.
     let own : (is_of (network_of n) ((network_of n).owner x) x && not ((network_of n).input x)) ≡ true = ap (λ b. b && not ((network_of n).input x)) (eq-eqb ((network_of n).owner x) ((network_of n).owner x) refl) ∙ ap not t in
     let k = slice_in x (outputs_of (network_of n) ((network_of n).owner x)) (kept_in (λ y. is_of (network_of n) ((network_of n).owner x) y && not ((network_of n).input y)) x (network_of n).elements i own) in
@@ -129,8 +129,8 @@ empty_row n sources x first edges f a h e r = rows_pass (Precedes n) (vertex_cou
 direct_fact : (n : Net) (i x : ℕ) → In x (direct_of (network_of n) i) → ((element n x).instance ≡ i) × ((element n x).input ≡ true) × ((network_of n).direct x ≡ true)
 direct_fact n i x h =
     let t = kept_true (λ y. is_of (network_of n) i y && ((network_of n).input y && (network_of n).direct y)) x (network_of n).elements h in
-    let p = and_both (is_of (network_of n) i x) ((network_of n).input x && (network_of n).direct x) t in
-    let q = and_both ((network_of n).input x) ((network_of n).direct x) p.1 in
+    let p = and_parts (is_of (network_of n) i x) ((network_of n).input x && (network_of n).direct x) t in
+    let q = and_parts ((network_of n).input x) ((network_of n).direct x) p.1 in
     (eqb-true (element n x).instance i p.0, q.0, q.1)
 
 direct_is : (n : Net) (i x : ℕ) (t : NetInstance) → slice_get n.instances i ≡ Some t → (element n x).instance ≡ i → (network_of n).direct x ≡ is_direct_body t.body
@@ -139,7 +139,7 @@ direct_is n i x t s e = ap (λ j. is_direct_at (slice_get n.instances j) x) e �
 own_window : (n : Net) (i x : ℕ) (t : NetInstance) → IsChecked n → slice_get n.instances i ≡ Some t → x < length n.elements → (element n x).instance ≡ i → (t.first ≤ x) × (x < t.first + t.count)
 own_window n i x t f s h e =
     let w = sym (f.indexed.windows.own i t x s h) ∙ eq-eqb (element n x).instance i e in
-    let p = and_both (nat_le t.first x) (nat_lt x (t.first + t.count)) w in
+    let p = and_parts (nat_le t.first x) (nat_lt x (t.first + t.count)) w in
     (leb-true t.first x p.0, ltb-true x (t.first + t.count) p.1)
 
 window_own : (n : Net) (i x : ℕ) (t : NetInstance) → IsChecked n → slice_get n.instances i ≡ Some t → x < length n.elements → t.first ≤ x → x < t.first + t.count → (element n x).instance ≡ i
@@ -161,7 +161,7 @@ instance_start n i t first edges f s r = rows_pass (Precedes n) (vertex_count n)
 
 wanted_taken : (n : Net) (i x : ℕ) (t : NetInstance) → IsChecked n → slice_get n.instances i ≡ Some t → x < length n.elements → t.first ≤ x → x < t.first + t.count → (is_direct_body t.body && (element n x).input) ≡ true → Precedes n x (length n.elements + i)
 wanted_taken n i x t f s h a b e =
-    let p = and_both (is_direct_body t.body) (element n x).input e in
+    let p = and_parts (is_direct_body t.body) (element n x).input e in
     let own = window_own n i x t f s h a b in
     let d : (network_of n).direct x ≡ true = direct_is n i x t s own ∙ p.0 in
     let both : (is_of (network_of n) i x && ((network_of n).input x && (network_of n).direct x)) ≡ true =

@@ -1,14 +1,14 @@
 -- The instances among ordered vertices.
 use Rattle.std.proofs.Common.{ℕ, zero, suc, ◌+◌, ◌-◌, ◌<◌, ◌≤◌, ◌≡◌, ◌&&◌, refl, sym, ap, ◌∙◌, subst, arith, Bool, true, inl, inr, List, [], ◌∷◌, ◌++◌, length, get_or}
+use Rattle.cdl_source.proofs.Cases.{by_lt, by_bool}
 use Rattle.std.specs.Prelude.{nat_le}
-use Rattle.std.proofs.lemmas.Bool.{false≢true, leb-true, le-leb}
+use Rattle.std.proofs.lemmas.Bool.{false≢true, leb-true, le-leb, and_parts}
+use Rattle.std.proofs.lemmas.List.{length_push}
 use Rattle.cdl_search.specs.Order.{IsOrder}
 use Rattle.cdl_search.specs.Walks as walks
 use Rattle.cdl_network.specs.Dependence.{Walk, Out, direct_of, outputs_of}
 use Rattle.cdl_network.specs.Lists.{In}
 use Rattle.cdl_network.proofs.Checking.{slice_in}
-use Rattle.cdl_network.proofs.Inside.{and_both}
-use Rattle.cdl_network.proofs.Numbers.{bool_cases}
 use Rattle.cdl_connect.proofs.Networks.{in_all}
 use Rattle.cdl_connect.specs.declared.net.Net.{Net}
 use Rattle.cdl_connect.specs.Faults.{IsChecked}
@@ -16,7 +16,7 @@ use Rattle.cdl_connect.specs.Nets.{network_of}
 use Rattle.cdl_schedule.specs.Plans.{IsPlan}
 use Rattle.cdl_schedule.specs.inner.Listed.{Listed, is_listed}
 use Rattle.cdl_schedule.specs.inner.Rows.{Precedes, added, vertex_count}
-use Rattle.cdl_schedule.proofs.Building.{by_lt, old_at, new_at, longer}
+use Rattle.cdl_schedule.proofs.Building.{old_at, new_at}
 use Rattle.cdl_schedule.proofs.Loops.{back, some_at}
 
 pub listed_start : (E : ℕ → Bool) (m : ℕ) (order list : List ℕ) → list ≡ [] → Listed E m order 0 list
@@ -43,7 +43,7 @@ one_place D top order o p q h g e = by_lt p q (λ a. absurd (o.once p q a g e)) 
 
 listed_add : (D : ℕ → ℕ → Type 0) (top : ℕ) (E : ℕ → Bool) (m t i : ℕ) (order list : List ℕ) → IsOrder D top order → Listed E m order t list → t < length order → get_or order t 0 ≡ m + i → E i ≡ true → Listed E m order (t + 1) (list ++ i ∷ [])
 listed_add D top E m t i order list o l h e b =
-    let n = longer list i in
+    let n = length_push list i in
     let new : (j : ℕ) → j ≡ length list → get_or (list ++ i ∷ []) j 0 ≡ i = λ j q. new_at list i j q in
     let at : (j : ℕ) → length list ≤ j → j < length (list ++ i ∷ []) → get_or (list ++ i ∷ []) j 0 ≡ i = λ j a c. new j (omega (arith, n)) in
     record {
@@ -85,9 +85,9 @@ pub listed_next : (n : Net) (t v : ℕ) (order list list2 : List ℕ) → IsOrde
 listed_next n t v order list list2 o l h e f =
     let m : ℕ = length n.elements in
     let E : ℕ → Bool = (network_of n).elementary in
-    bool_cases (is_listed n v)
+    by_bool (is_listed n v)
     (λ b.
-    let p = and_both (nat_le m v) (E (v - m)) b in
+    let p = and_parts (nat_le m v) (E (v - m)) b in
     let a = leb-true m v p.0 in
     let z : list2 ≡ list ++ (v - m) ∷ [] = f ∙ ap (λ c. added c list (v - m)) b in
     let s : get_or order t 0 ≡ m + (v - m) = omega (arith, e, a) in

@@ -1,9 +1,10 @@
 -- Walks of a net and of its rows.
-use Rattle.std.proofs.Common.{ℕ, zero, suc, ◌+◌, ◌<◌, ◌≤◌, ◌≡◌, refl, sym, ap, ◌∙◌, subst, arith, true, inl, inr, List, length, get_or, Option, Some, None, slice_get, Result, Ok, Err}
-use Rattle.std.specs.Prelude.{◌-◌, IfOk, IfErr, OnOk}
+use Rattle.std.proofs.Common.{ℕ, zero, suc, ◌+◌, ◌<◌, ◌≤◌, ◌≡◌, refl, sym, ap, ◌∙◌, subst, arith, true, inl, inr, List, length, get_or, Option, Some, None, slice_get}
+use Rattle.cdl_source.proofs.Cases.{by_lt}
+use Rattle.std.specs.Prelude.{◌-◌}
 use Rattle.std.proofs.lemmas.Bool.{false≢true}
-use Rattle.std.proofs.lemmas.List.{get_or_past}
-use Rattle.std.proofs.lemmas.Option.{slice_get_within, slice_get-get_or}
+use Rattle.std.proofs.lemmas.List.{get_or_past, get_or_default}
+use Rattle.std.proofs.lemmas.Option.{slice_get_within}
 use Rattle.cdl_search.specs.Graph.{IsGraph}
 use Rattle.cdl_search.specs.Graph as graph
 use Rattle.cdl_search.specs.Order.{IsOrder, IsSearchFault}
@@ -13,19 +14,15 @@ use Rattle.cdl_search.specs.Walks as walks
 use Rattle.cdl_network.specs.Dependence.{Origin, Row, From, Out, HasOrigin, Reads, Determines, Walk, OnLoop, FirstLoop, NoLoop, direct_of}
 use Rattle.cdl_network.specs.Lists.{In, numbers}
 use Rattle.cdl_network.proofs.Inside.{origin_inside, reads_inside, direct_inside}
-use Rattle.cdl_network.proofs.Places.{of_slice_numbers, slice_numbers}
-use Rattle.cdl_connect.proofs.Networks.{below_all, in_all, net_closed}
+use Rattle.cdl_network.proofs.Places.{of_slice_numbers}
+use Rattle.cdl_connect.proofs.Networks.{below_all, in_all, net_closed, number_at}
 use Rattle.cdl_search.proofs.Walking.{walk_from}
-use Rattle.cdl_schedule.proofs.Building.{by_lt}
 use Rattle.cdl_connect.specs.declared.net.Net.{Net}
 use Rattle.cdl_connect.specs.declared.net.NetElement.{NetElement}
 use Rattle.cdl_connect.specs.declared.net.NetInstance.{NetInstance}
 use Rattle.cdl_connect.specs.Faults.{IsChecked}
 use Rattle.cdl_connect.specs.Nets.{network_of, element, no_element, is_elementary}
 use Rattle.cdl_schedule.specs.inner.Rows.{AreRows, Precedes, vertex_of, vertex_count}
-
-number_at : (n k : ℕ) → k < n → slice_get (numbers 0 n) k ≡ Some k
-number_at n k h = let e : 0 + k ≡ k = omega arith in slice_numbers 0 n k h ∙ ap Some e
 
 -- what has an origin is an element
 pub has_inside : (n : Net) (x : ℕ) (c : Origin ℕ ℕ) → IsChecked n → HasOrigin (network_of n) x c → x < length n.elements
@@ -223,18 +220,6 @@ rows_read D top v x first edges first2 edges2 r a b = subst (λ l. AreRows D top
 pub rows_count : (n : Net) (first edges : List ℕ) → AreRows (Precedes n) (vertex_count n) (vertex_count n) 0 first edges → length first - 1 ≡ vertex_count n
 rows_count n first edges r = let s = r.size in omega (arith, s)
 
-pub if_ok : {A E : Type 0} (P Q : A → Type 0) (r : Result A E) → ((x : A) → P x → Q x) → IfOk r P → IfOk r Q
-if_ok P Q (Ok x) f h = f x h
-if_ok P Q (Err e) f h = h
-
-pub if_err : {A E : Type 0} (P Q : E → Type 0) (r : Result A E) → ((x : E) → P x → Q x) → IfErr r P → IfErr r Q
-if_err P Q (Ok x) f h = h
-if_err P Q (Err e) f h = f e h
-
-pub on_ok : {A E : Type 0} (P Q : Type 0) (r : Result A E) → (P → Q) → OnOk r P → OnOk r Q
-on_ok P Q (Ok x) f h = f h
-on_ok P Q (Err e) f h = h
-
 -- the fault by its vertex
 loop_vertex : (n : Net) (v : ℕ) (r : SearchFault) → r ≡ Loop v → IsSearchFault (Precedes n) (vertex_count n) r → IsSearchFault (Precedes n) (vertex_count n) (Loop v)
 loop_vertex n v r e s = subst (λ f. IsSearchFault (Precedes n) (vertex_count n) f) e s
@@ -246,12 +231,9 @@ loop_inside n v r xs f e s q =
     let l : length xs ≡ length n.elements = ap length q in
     omega (arith, h, l)
 
-same_read : (ys : List NetElement) (v : ℕ) (c d : NetElement) → v < length ys → get_or ys v c ≡ get_or ys v d
-same_read ys v c d h = let e : Some (get_or ys v c) ≡ Some (get_or ys v d) = sym (slice_get-get_or ys v c h) ∙ slice_get-get_or ys v d h in cc
-
 pub loop_named : (n : Net) (v : ℕ) (r : SearchFault) (xs : List NetElement) (d : NetElement) → IsChecked n → r ≡ Loop v → IsSearchFault (Precedes n) (vertex_count n) r → xs ≡ n.elements → FirstLoop (network_of n) (get_or xs v d).instance
 loop_named n v r xs d f e s q =
     let p = loop_vertex n v r e s in
     let h = least_vertex n v f p.1 p.2 in
-    let i : (get_or xs v d).instance ≡ (element n v).instance = ap (λ l. (get_or l v d).instance) q ∙ ap (λ (y : NetElement). y.instance) (same_read n.elements v d no_element h) in
+    let i : (get_or xs v d).instance ≡ (element n v).instance = ap (λ l. (get_or l v d).instance) q ∙ ap (λ (y : NetElement). y.instance) (get_or_default n.elements v d no_element h) in
     first_loop n v (get_or xs v d).instance f i p.1 p.2

@@ -1,5 +1,6 @@
 -- The steps of a tick: each vertex adds its own.
 use Rattle.std.proofs.Common.{ℕ, zero, suc, ◌+◌, ◌-◌, ◌<◌, ◌≤◌, ◌≡◌, ◌⊎◌, refl, sym, ap, ◌∙◌, subst, arith, Bool, true, false, cond, inl, inr, List, [], ◌∷◌, ◌++◌, filter, length, get_or, Option, Some, None, slice_get}
+use Rattle.cdl_source.proofs.Cases.{by_lt, by_bool}
 use Rattle.std.proofs.lemmas.Bool.{false≢true, lt-ltb, le-ltb}
 use Rattle.std.proofs.lemmas.Option.{slice_get_within}
 use Rattle.cdl_search.specs.Order.{IsOrder}
@@ -7,7 +8,6 @@ use Rattle.cdl_network.specs.Dependence.{Origin, Row, From, Out, HasOrigin, outp
 use Rattle.cdl_network.specs.Lists.{numbers}
 use Rattle.cdl_network.proofs.Checking.{has_origin, one_origin, slice_in}
 use Rattle.cdl_network.proofs.Inside.{in_slice}
-use Rattle.cdl_network.proofs.Numbers.{bool_cases}
 use Rattle.cdl_connect.proofs.Networks.{in_all, net_closed, net_shaped, none_first}
 use Rattle.cdl_connect.specs.declared.net.Net.{Net}
 use Rattle.cdl_connect.specs.Faults.{IsChecked}
@@ -17,7 +17,6 @@ use Rattle.cdl_schedule.specs.declared.steps.Step.TheVariants.{Input, Copy, Emit
 use Rattle.cdl_schedule.specs.Passes.{IsPass, IsStep, Reads, Writes}
 use Rattle.cdl_schedule.specs.inner.Passed.{Done, Passed, copy_step, input_steps, inputs_below, step_by, step_of, vertex_at, with_step}
 use Rattle.cdl_schedule.specs.inner.Rows.{AreSources, Precedes, cause_of, vertex_count, vertex_of}
-use Rattle.cdl_schedule.proofs.Building.{by_lt}
 use Rattle.cdl_schedule.proofs.Causes.{cause_is}
 use Rattle.cdl_schedule.proofs.Loops.{direct_are, has_inside, reads_are, some_at}
 
@@ -60,11 +59,11 @@ input_length : (xs : List ℕ) (k : ℕ) → length (input_steps k xs) ≡ lengt
 input_length [] k = refl
 input_length (x ∷ xs) k = ap suc (input_length xs (suc k))
 
-numbers_after : (a t : ℕ) → numbers a (suc t) ≡ numbers a t ++ (a + t) ∷ []
+pub numbers_after : (a t : ℕ) → numbers a (suc t) ≡ numbers a t ++ (a + t) ∷ []
 numbers_after a zero = let q : a ≡ a + 0 = omega arith in ap (λ z. z ∷ []) q
 numbers_after a (suc t) = let q : suc a + t ≡ a + suc t = omega arith in ap (λ l. a ∷ l) (numbers_after (suc a) t ∙ ap (λ z. numbers (suc a) t ++ z ∷ []) q)
 
-filter_after : (f : ℕ → Bool) (xs : List ℕ) (z : ℕ) → filter f (xs ++ z ∷ []) ≡ cond (f z) (filter f xs ++ z ∷ []) (filter f xs)
+pub filter_after : (f : ℕ → Bool) (xs : List ℕ) (z : ℕ) → filter f (xs ++ z ∷ []) ≡ cond (f z) (filter f xs ++ z ∷ []) (filter f xs)
 filter_after f [] z = refl
 filter_after f (x ∷ xs) z = cases (f x) (f z) (filter f xs) ∙ ap (λ l. cond (f x) (x ∷ l) l) (filter_after f xs z) ∙ ends (f x) (f z) (filter f xs)
   where
@@ -260,7 +259,7 @@ composite_done n v steps f l e = record {
 pub passed_next : (n : Net) (sources order : List ℕ) (t v : ℕ) (steps steps2 : List Step) → IsChecked n → AreSources n (length n.wires) sources → IsOrder (Precedes n) (vertex_count n) order → Passed n order t steps → t < length order → get_or order t 0 ≡ v → steps2 ≡ with_step steps (step_of n sources v) → Passed n order (t + 1) steps2
 passed_next n sources order t v steps steps2 f a r p h w e =
     subst (λ l. Passed n order (t + 1) l) (ap (λ z. with_step steps (step_of n sources z)) w ∙ sym e)
-    (by_lt (get_or order t 0) (length n.elements) (λ l. let s = step_is n sources (get_or order t 0) f a l in element s.0 s.1 s.2) (λ l. bool_cases ((network_of n).elementary (get_or order t 0 - length n.elements)) (λ b. block l b) (λ b. part l b)))
+    (by_lt (get_or order t 0) (length n.elements) (λ l. let s = step_is n sources (get_or order t 0) f a l in element s.0 s.1 s.2) (λ l. by_bool ((network_of n).elementary (get_or order t 0 - length n.elements)) (λ b. block l b) (λ b. part l b)))
   where
     element : (c : Origin ℕ ℕ) → HasOrigin (network_of n) (get_or order t 0) c → step_of n sources (get_or order t 0) ≡ element_step (get_or order t 0) c → Passed n order (t + 1) (with_step steps (step_of n sources (get_or order t 0)))
     element (Row k) g q = subst (λ o. Passed n order (t + 1) (with_step steps o)) (sym q) (passed_skip n order t steps p (row_done n order t (get_or order t 0) k steps f p g))
@@ -310,11 +309,11 @@ pass_of n order steps f r p = record {
 -- places of the row
 filter_few : (f : ℕ → Bool) (xs : List ℕ) → length (filter f xs) ≤ length xs
 filter_few f [] = omega arith
-filter_few f (x ∷ xs) = let r = filter_few f xs in bool_cases (f x)
+filter_few f (x ∷ xs) = let r = filter_few f xs in by_bool (f x)
     (λ e. let q : filter f (x ∷ xs) ≡ x ∷ filter f xs = ap (λ b. cond b (x ∷ filter f xs) (filter f xs)) e in let l : length (filter f (x ∷ xs)) ≡ suc (length (filter f xs)) = ap length q in omega (arith, r, l))
     (λ e. let q : filter f (x ∷ xs) ≡ filter f xs = ap (λ b. cond b (x ∷ filter f xs) (filter f xs)) e in let l : length (filter f (x ∷ xs)) ≡ length (filter f xs) = ap length q in omega (arith, r, l))
 
-numbers_length : (a n : ℕ) → length (numbers a n) ≡ n
+pub numbers_length : (a n : ℕ) → length (numbers a n) ≡ n
 numbers_length a zero = refl
 numbers_length a (suc n) = ap suc (numbers_length (suc a) n)
 

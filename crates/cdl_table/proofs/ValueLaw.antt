@@ -7,10 +7,11 @@ use Rattle.std.specs.Str.{bytes_eq}
 use Rattle.std.proofs.lemmas.Bool.{cases_Bool}
 use Rattle.std.proofs.lemmas.Bool.Decides.{nat_tests}
 use Rattle.std.proofs.lemmas.Int.{ints}
-use Rattle.cdl_decimal.specs.Near.{InRange, in_range, near}
+use Rattle.cdl_decimal.specs.Near.{InRange, near}
 use Rattle.cdl_decimal.specs.Spells.{Parts, lower, upper}
 use Rattle.cdl_decimal.specs.Split.{count_of, is_long, judged, parse_of, split}
 use Rattle.cdl_decimal.specs.declared.numeral.DecimalError.TheVariants.{OutOfRange}
+use Rattle.cdl_decimal.proofs.ScaleLaws.{in_range-some}
 use Rattle.cdl_values.specs.History.{IsTime, IsValue}
 use Rattle.cdl_values.specs.declared.value.ValueType.{ValueType}
 use Rattle.cdl_values.specs.declared.value.ValueType.TheVariants.{Boolean, Integer, Real, Str, Enumeration}
@@ -73,24 +74,13 @@ chosen false false w e = absurd (cc e)
 boolean-value : (field : List ℕ) (w : ℤ) → boolean_word field ≡ Some w → (w ≡ pos 0) ⊎ (w ≡ pos 1)
 boolean-value field w e = chosen (bytes_eq field (codes "true") || bytes_eq field (codes "1")) (bytes_eq field (codes "false") || bytes_eq field (codes "0")) w e
 
-in_range-is : (z w : ℤ) → in_range z ≡ Some w → InRange w
-in_range-is z w e =
-    elim (cases_Bool (nat_le (unsigned_abs z) 10000000000000000)) [
-      | inl small ↦
-          let few : unsigned_abs z ≤ 10000000000000000 = grind (arith, nat_tests) in
-          let now : Some z ≡ Some w = rw small at e in
-          let same : z ≡ w = cc now in
-          rw (sym same) few
-      | inr large ↦ let none = rw large at e in absurd (cc none)
-    ]
-
 ok_or-is : (o : Option ℤ) (w : ℤ) → ((z : ℤ) → o ≡ Some z → InRange z) → result_ok (ok_or o OutOfRange) ≡ Some w → InRange w
 ok_or-is None w each e = absurd (cc e)
 ok_or-is (Some z) w each e = let same : z ≡ w = cc e in rw (sym same) (each z refl)
 
 count-is : (p : Parts) (z : ℤ) → count_of p ≡ Some z → InRange z
 unfolding count_of
-count-is p z e = in_range-is (near (upper p *ℤ pos 1000000) (lower p)) z e
+count-is p z e = in_range-some (near (upper p *ℤ pos 1000000) (lower p)) z e
 
 judged-is : (o : Option Parts) (w : ℤ) → result_ok (judged o) ≡ Some w → InRange w
 judged-is None w e = absurd (cc e)

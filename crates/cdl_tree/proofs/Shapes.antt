@@ -1,5 +1,6 @@
 -- Every expression of a text is proper.
-use Rattle.std.proofs.Common.{◌≡◌, ℕ, Bool, true, false, ◌&&◌, List, [], ◌∷◌, ◌++◌, map, Some, ℤ, refl, ◌∙◌, rules}
+use Rattle.std.proofs.Common.{◌≡◌, ℕ, Bool, true, ◌&&◌, List, [], ◌∷◌, ◌++◌, map, Some, ℤ, refl, ◌∙◌, rules}
+use Rattle.std.proofs.lemmas.Bool.{and_from, and_parts}
 use Rattle.cdl_tree.specs.declared.terminal.Terminal.{Terminal}
 use Rattle.cdl_tree.specs.declared.terminal.Terminal.TheVariants as the
 use Rattle.cdl_tree.specs.declared.name.Ident.{Ident}
@@ -43,18 +44,9 @@ pub name_some : {w : Word} {parts : List Ident} → NameOf w parts → is_some p
 name_some (single a h) = refl
 name_some (dotted p a {parts} n h i) = some_behind parts _
 
-pub both : (a b : Bool) → a ≡ true → b ≡ true → (a && b) ≡ true
-both true true e f = refl
-both true false e f = f
-both false b e f = e
-
-pub split : (a b : Bool) → (a && b) ≡ true → (a ≡ true) × (b ≡ true)
-split true b e = (refl, e)
-split false b e = absurd (cc)
-
 all_behind : (es : List Expr) (e : Expr) → all_of (map is_proper es) ≡ true → is_proper e ≡ true → all_of (map is_proper (es ++ e ∷ [])) ≡ true
-all_behind [] e h i = both _ _ i refl
-all_behind (x ∷ es) e h i = let parts = split (is_proper x) (all_of (map is_proper es)) h in both _ _ parts.0 (all_behind es e parts.1 i)
+all_behind [] e h i = and_from _ _ i refl
+all_behind (x ∷ es) e h i = let parts = and_parts (is_proper x) (all_of (map is_proper es)) h in and_from _ _ parts.0 (all_behind es e parts.1 i)
 
 -- what a node of each shape owes
 
@@ -99,22 +91,22 @@ unfolding is_proper tree
 refer_is parts es w = search (rules, the_lemmas)
 
 unary : (o : Op) (e : Expr) (w : Word) → is_unary o ≡ true → is_proper e ≡ true → is_proper (tree (node.Unary o e) w) ≡ true
-unary o e w h i = unary_is o e w ∙ both _ _ h i
+unary o e w h i = unary_is o e w ∙ and_from _ _ h i
 
 binary : (o : Op) (l r : Expr) (w : Word) → is_binary o ≡ true → is_proper l ≡ true → is_proper r ≡ true → is_proper (tree (node.Binary o l r) w) ≡ true
-binary o l r w h i j = binary_is o l r w ∙ both _ _ h (both _ _ i j)
+binary o l r w h i j = binary_is o l r w ∙ and_from _ _ h (and_from _ _ i j)
 
 choice : (c x y : Expr) (w : Word) → is_proper c ≡ true → is_proper x ≡ true → is_proper y ≡ true → is_proper (tree (node.If c x y) w) ≡ true
-choice c x y w h i j = choice_is c x y w ∙ both _ _ h (both _ _ i j)
+choice c x y w h i j = choice_is c x y w ∙ and_from _ _ h (and_from _ _ i j)
 
 items : (es : List Expr) (w : Word) → is_some es ≡ true → all_of (map is_proper es) ≡ true → is_proper (tree (node.Array es) w) ≡ true
-items es w h i = array_is es w ∙ both _ _ (some_mapped is_proper es ∙ h) i
+items es w h i = array_is es w ∙ and_from _ _ (some_mapped is_proper es ∙ h) i
 
 called : (f : Ident) (es : List Expr) (w : Word) → all_of (map is_proper es) ≡ true → is_proper (tree (node.Call f es) w) ≡ true
 called f es w i = call_is f es w ∙ i
 
 referred : (parts : List Ident) (es : List Expr) (w : Word) → is_some parts ≡ true → all_of (map is_proper es) ≡ true → is_proper (tree (node.Refer (the_name parts) es) w) ≡ true
-referred parts es w h i = refer_is parts es w ∙ both _ _ h i
+referred parts es w h i = refer_is parts es w ∙ and_from _ _ h i
 
 exprs_some : {w : Word} {es : List Expr} → Exprs w es → is_some es ≡ true
 exprs_some (one_expr x) = refl
@@ -174,5 +166,5 @@ mutual
   subscripts_proper (subscripts a b h x g) = exprs_proper x
 
   exprs_proper : {w : Word} {es : List Expr} → Exprs w es → all_of (map is_proper es) ≡ true
-  exprs_proper (one_expr x) = both _ _ (expr_proper x) refl
+  exprs_proper (one_expr x) = and_from _ _ (expr_proper x) refl
   exprs_proper (more_exprs t {es} {e} xs h x) = all_behind es e (exprs_proper xs) (expr_proper x)

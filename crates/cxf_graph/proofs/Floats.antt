@@ -1,6 +1,7 @@
 -- A document has no float.
-use Rattle.std.proofs.Common.{◌≡◌, ◌∙◌, ◌||◌, true≢false, ℕ, List, [], ◌∷◌, Bool, true, false, map, refl, ap, pos, negsuc, Ordering, Less, Equal, Greater}
+use Rattle.std.proofs.Common.{◌≡◌, ◌∙◌, ℕ, List, [], ◌∷◌, false, map, refl, ap, pos, negsuc, Ordering, Less, Equal, Greater}
 use Rattle.std.specs.Ordering.{match_ordering}
+use Rattle.std.proofs.lemmas.Bool.{or_parts}
 use Rattle.serde_json.specs.Data.{Data, Members, no_members, member, put}
 use Rattle.serde_json.specs.View.{items_of}
 use Rattle.serde_json.specs.Written.{compact_text, has_float, items_have_float, members_have_float}
@@ -44,15 +45,10 @@ choice_plain Less a b c p q r = p
 choice_plain Equal a b c p q r = q
 choice_plain Greater a b c p q r = r
 
--- no member has a float where neither the first nor the rest has
-first_plain : (x y : Bool) → x || y ≡ false → (x ≡ false) × (y ≡ false)
-first_plain false y e = (refl, e)
-first_plain true y e = absurd (true≢false e)
-
 put_plain : (k : List ℕ) (d : Data) (ms : Members) → has_float d ≡ false → members_have_float ms ≡ false → members_have_float (put k d ms) ≡ false
 put_plain k d no_members p q = rw p refl
 put_plain k d (member l e ms) p q =
-    let h = first_plain (has_float e) (members_have_float ms) q in
+    let h = or_parts (has_float e) (members_have_float ms) q in
     choice_plain _ (member k d (member l e ms)) (member l d ms) (member l e (put k d ms)) (rw p q) (rw p h.1) (rw (h.0) (put_plain k d ms p h.1))
 
 given_plain : (ms : Members) (gs : List Given) → members_have_float ms ≡ false → members_have_float (given_members ms gs) ≡ false

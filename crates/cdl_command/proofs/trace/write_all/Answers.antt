@@ -1,6 +1,6 @@
 use Rattle.std.proofs.Common.{◌∙◌, ap, arith, Err}
-use Rattle.std.proofs.lemmas.Result.{err_from_is_err_and, on_ok_weaker}
-use Rattle.cdl_command.proofs.TickFacts.{answered_behind, header_stops, if_err, stop_answered, trace_cut, wrote_trace}
+use Rattle.std.proofs.lemmas.Result.{err_from_is_err_and, on_ok_weaker, IfErr-weaker}
+use Rattle.cdl_command.proofs.TickFacts.{answered_behind, header_stops, stop_answered, trace_cut, wrote_trace}
 use Rattle.cdl_command.proofs.trace.write_all.Goals as goal
 
 pub returns-in_err-header-clause-err : goal.returns-in_err-header-clause-err
@@ -18,7 +18,7 @@ returns-clause-ok g c =
 
 pub returns-clause-err : goal.returns-clause-err
 returns-clause-err g c =
-    if_err c.write_rows.result
+    IfErr-weaker c.write_rows.result _ _
     (λ s cuts. trace_cut c.args.flat c.in_ok-writer.writer c.args.table.now (g.O.Sink.written c.args.out.now) (g.O.Sink.written c.header.new.sink) (g.O.Sink.written c.write_rows.new.out) _ _ s
     (c.in_ok-writer.ensures ∙ c.in_ok-outputs.ensures) c.in_ok-header.ensures.ok (λ rose. omega (arith, c.in_ok-header.ensures.later, rose)) cuts)
     (rw c.in_ok-runner.ensures at c.write_rows.ensures.err)
@@ -30,4 +30,4 @@ returns-in_err-header-clause-answered g c =
 
 pub returns-clause-answered : goal.returns-clause-answered
 returns-clause-answered g c =
-    if_err c.write_rows.result (λ s h. answered_behind _ _ _ s c.in_ok-header.ensures.answered h) c.write_rows.ensures.answered
+    IfErr-weaker c.write_rows.result _ _ (λ s h. answered_behind _ _ _ s c.in_ok-header.ensures.answered h) c.write_rows.ensures.answered

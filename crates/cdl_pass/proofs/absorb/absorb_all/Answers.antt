@@ -1,9 +1,10 @@
 use Rattle.std.proofs.Common.{arith, ◌≡◌, length, ◌∙◌, get_or}
 use Rattle.std.proofs.lemmas.Int.{to_z-of_z}
+use Rattle.std.proofs.lemmas.Option.{slice_get-get_or, slice_get_within}
 use Rattle.std.specs.Int.{w64}
 use Rattle.cdl_pass.specs.declared.net.Node.{Node}
 use Rattle.cdl_pass.specs.Windows.{ins_of}
-use Rattle.cdl_pass.proofs.Passing.{here, at, within, resized}
+use Rattle.cdl_pass.proofs.Passing.{here, resized}
 use Rattle.cdl_pass.proofs.Absorbing.{ins_kept, values_in, moved_next, absorbed_next, kept_next}
 use Rattle.cdl_pass.proofs.absorb.absorb_all.Goals as goal
 
@@ -16,7 +17,7 @@ absorb_one-requires-clause-lies g c =
     let inv = c.loop-i.invariant in
     let t = to_z-of_z w64 c.args.now c.ranges.now in
     let b = here c.args.blocks.now i c.index-blocks-i.result (omega (arith, c.requires.laid.same, c.loop-i-test.true)) c.index-blocks-i.is in
-    let p = at c.args.nodes.now i node0 (omega (arith, c.loop-i-test.true)) in
+    let p = slice_get-get_or c.args.nodes.now i node0 (omega (arith, c.loop-i-test.true)) in
     let node : Node = get_or c.args.nodes.now i node0 in
     let f = c.requires.laid.each i _ _ b p in
     let ins : ins_of node c.loop-i.words ≡ ins_of node c.args.words.now = ins_kept c.args.words.now c.loop-i.words f inv.kept in
@@ -28,7 +29,7 @@ absorb_one-requires-clause-state g c =
     let inv = c.loop-i.invariant in
     let t = to_z-of_z w64 c.args.now c.ranges.now in
     let b = here c.args.blocks.now i c.index-blocks-i.result (omega (arith, c.requires.laid.same, c.loop-i-test.true)) c.index-blocks-i.is in
-    let p = at c.args.nodes.now i node0 (omega (arith, c.loop-i-test.true)) in
+    let p = slice_get-get_or c.args.nodes.now i node0 (omega (arith, c.loop-i-test.true)) in
     let node : Node = get_or c.args.nodes.now i node0 in
     let f = c.requires.laid.each i _ _ b p in
     let ins : ins_of node c.loop-i.words ≡ ins_of node c.args.words.now = ins_kept c.args.words.now c.loop-i.words f inv.kept in
@@ -40,7 +41,7 @@ absorb_one-requires-clause-ready g c =
     let inv = c.loop-i.invariant in
     let t = to_z-of_z w64 c.args.now c.ranges.now in
     let b = here c.args.blocks.now i c.index-blocks-i.result (omega (arith, c.requires.laid.same, c.loop-i-test.true)) c.index-blocks-i.is in
-    let p = at c.args.nodes.now i node0 (omega (arith, c.loop-i-test.true)) in
+    let p = slice_get-get_or c.args.nodes.now i node0 (omega (arith, c.loop-i-test.true)) in
     let node : Node = get_or c.args.nodes.now i node0 in
     let f = c.requires.laid.each i _ _ b p in
     let ins : ins_of node c.loop-i.words ≡ ins_of node c.args.words.now = ins_kept c.args.words.now c.loop-i.words f inv.kept in
@@ -52,7 +53,7 @@ absorb_one-requires-clause-sound g c =
     let inv = c.loop-i.invariant in
     let t = to_z-of_z w64 c.args.now c.ranges.now in
     let b = here c.args.blocks.now i c.index-blocks-i.result (omega (arith, c.requires.laid.same, c.loop-i-test.true)) c.index-blocks-i.is in
-    let p = at c.args.nodes.now i node0 (omega (arith, c.loop-i-test.true)) in
+    let p = slice_get-get_or c.args.nodes.now i node0 (omega (arith, c.loop-i-test.true)) in
     let node : Node = get_or c.args.nodes.now i node0 in
     let f = c.requires.laid.each i _ _ b p in
     let ins : ins_of node c.loop-i.words ≡ ins_of node c.args.words.now = ins_kept c.args.words.now c.loop-i.words f inv.kept in
@@ -64,7 +65,7 @@ loop-i-preserved g c =
     let inv = c.loop-i.invariant in
     let t = to_z-of_z w64 c.args.now c.ranges.now in
     let b = here c.args.blocks.now i c.index-blocks-i.result (omega (arith, c.requires.laid.same, c.loop-i-test.true)) c.index-blocks-i.is in
-    let p = at c.args.nodes.now i node0 (omega (arith, c.loop-i-test.true)) in
+    let p = slice_get-get_or c.args.nodes.now i node0 (omega (arith, c.loop-i-test.true)) in
     let node : Node = get_or c.args.nodes.now i node0 in
     let f = c.requires.laid.each i _ _ b p in
     let ins : ins_of node c.loop-i.words ≡ ins_of node c.args.words.now = ins_kept c.args.words.now c.loop-i.words f inv.kept in
@@ -82,9 +83,9 @@ loop-i-preserved g c =
 pub returns-clause-sound : goal.returns-clause-sound
 returns-clause-sound g c =
     let t = to_z-of_z w64 c.args.now c.ranges.now in
-    λ j b p u v. let k = within c.args.nodes.now j p v in rw t at (c.loop-i.invariant.moved.sound j b p u v (omega (arith, k, c.loop-i-test.false)))
+    λ j b p u v. let k = slice_get_within c.args.nodes.now j p v in rw t at (c.loop-i.invariant.moved.sound j b p u v (omega (arith, k, c.loop-i-test.false)))
 
 pub returns-clause-stands : goal.returns-clause-stands
 returns-clause-stands g c =
     let t = to_z-of_z w64 c.args.now c.ranges.now in
-    λ r s j b p u v. let k = within c.args.nodes.now j p v in rw t at ((c.loop-i.invariant.so_far r (rw t s)).done j b p u v (omega (arith, k, c.loop-i-test.false)))
+    λ r s j b p u v. let k = slice_get_within c.args.nodes.now j p v in rw t at ((c.loop-i.invariant.so_far r (rw t s)).done j b p u v (omega (arith, k, c.loop-i-test.false)))

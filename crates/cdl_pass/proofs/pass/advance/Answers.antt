@@ -1,12 +1,13 @@
 use Rattle.std.proofs.Common.{arith, ◌<◌, ℕ, length, ◌∙◌, sym, subst, get_or}
 use Rattle.std.proofs.lemmas.Int.{to_z-of_z}
+use Rattle.std.proofs.lemmas.Option.{slice_get-get_or}
 use Rattle.std.specs.Int.{w64}
 use Rattle.cdl_values.specs.History.{word, IsValue}
 use Rattle.cdl_pass.specs.declared.net.Node.{Node}
 use Rattle.cdl_pass.specs.Net.{sort_at, blocks_of, net_of}
 use Rattle.cdl_pass.specs.Tick.{IsTyped}
 use Rattle.cdl_pass.proofs.Ready.{ready_all, value_some}
-use Rattle.cdl_pass.proofs.Passing.{none_of, first_none, lacks_none, here, at, gives_at, fault_at, lesser_inside, written_at}
+use Rattle.cdl_pass.proofs.Passing.{none_of, first_none, lacks_none, here, gives_at, fault_at, lesser_inside, written_at}
 use Rattle.cdl_pass.proofs.pass.advance.Goals as goal
 
 abbrev node0 : Node
@@ -17,7 +18,7 @@ emit_strict-fault-requires-clause-fits g c =
     let j = c.in-Emit.block in
     let hn : j < length c.args.nodes.now = rw c.in-Emit.is at c.requires.names in
     let b = here c.args.blocks.now j c.index-blocks-block.result (omega (arith, c.requires.laid.same)) c.index-blocks-block.is in
-    let p = at c.args.nodes.now j node0 hn in
+    let p = slice_get-get_or c.args.nodes.now j node0 hn in
     let node : Node = get_or c.args.nodes.now j node0 in
     c.requires.laid.each j _ _ b p
 
@@ -26,7 +27,7 @@ emit_strict-fault-requires-clause-typed g c =
     let j = c.in-Emit.block in
     let hn : j < length c.args.nodes.now = rw c.in-Emit.is at c.requires.names in
     let b = here c.args.blocks.now j c.index-blocks-block.result (omega (arith, c.requires.laid.same)) c.index-blocks-block.is in
-    let p = at c.args.nodes.now j node0 hn in
+    let p = slice_get-get_or c.args.nodes.now j node0 hn in
     let node : Node = get_or c.args.nodes.now j node0 in
     λ e x y. c.requires.typed e (rw c.in-Emit.is (node, p, x, y))
 
@@ -35,7 +36,7 @@ emit_strict-fault-requires-clause-whole g c =
     let j = c.in-Emit.block in
     let hn : j < length c.args.nodes.now = rw c.in-Emit.is at c.requires.names in
     let b = here c.args.blocks.now j c.index-blocks-block.result (omega (arith, c.requires.laid.same)) c.index-blocks-block.is in
-    let p = at c.args.nodes.now j node0 hn in
+    let p = slice_get-get_or c.args.nodes.now j node0 hn in
     let node : Node = get_or c.args.nodes.now j node0 in
     λ t. let nn = none_of c.args.least (sym c.is_whole-whole.ensures ∙ t) in ready_all (word c.args.words.now) node.ins node.reads (λ e x y. value_some (sort_at c.args._kinds.now e) _ (c.requires.whole nn e (rw c.in-Emit.is (node, p, x, y))))
 
@@ -44,7 +45,7 @@ emit_strict-fault-requires-clause-sound g c =
     let j = c.in-Emit.block in
     let hn : j < length c.args.nodes.now = rw c.in-Emit.is at c.requires.names in
     let b = here c.args.blocks.now j c.index-blocks-block.result (omega (arith, c.requires.laid.same)) c.index-blocks-block.is in
-    let p = at c.args.nodes.now j node0 hn in
+    let p = slice_get-get_or c.args.nodes.now j node0 hn in
     let node : Node = get_or c.args.nodes.now j node0 in
     let t = to_z-of_z w64 c.args.now c.ranges.now in
     (c.requires.sound.0, rw t c.requires.sound.1, c.requires.sound.2 j _ _ b p)
@@ -54,7 +55,7 @@ returns-in-Emit-clause-others g c =
     let j = c.in-Emit.block in
     let hn : j < length c.args.nodes.now = rw c.in-Emit.is at c.requires.names in
     let b = here c.args.blocks.now j c.index-blocks-block.result (omega (arith, c.requires.laid.same)) c.index-blocks-block.is in
-    let p = at c.args.nodes.now j node0 hn in
+    let p = slice_get-get_or c.args.nodes.now j node0 hn in
     let node : Node = get_or c.args.nodes.now j node0 in
     λ e f. c.emit_strict-fault.ensures.others e (λ x y. f (rw c.in-Emit.is (node, p, x, y)))
 
@@ -63,7 +64,7 @@ returns-in-Emit-clause-typed g c =
     let j = c.in-Emit.block in
     let hn : j < length c.args.nodes.now = rw c.in-Emit.is at c.requires.names in
     let b = here c.args.blocks.now j c.index-blocks-block.result (omega (arith, c.requires.laid.same)) c.index-blocks-block.is in
-    let p = at c.args.nodes.now j node0 hn in
+    let p = slice_get-get_or c.args.nodes.now j node0 hn in
     let node : Node = get_or c.args.nodes.now j node0 in
     λ e w. let z = written_at c.args.nodes.now j node e p (rw c.in-Emit.is at w) in
     subst (λ (x : ℕ). IsTyped c.args._kinds.now (word c.emit_strict-fault.new.words) x) z.2 (c.emit_strict-fault.ensures.typed z.0 z.1)
@@ -73,7 +74,7 @@ returns-in-Emit-clause-values g c =
     let j = c.in-Emit.block in
     let hn : j < length c.args.nodes.now = rw c.in-Emit.is at c.requires.names in
     let b = here c.args.blocks.now j c.index-blocks-block.result (omega (arith, c.requires.laid.same)) c.index-blocks-block.is in
-    let p = at c.args.nodes.now j node0 hn in
+    let p = slice_get-get_or c.args.nodes.now j node0 hn in
     let node : Node = get_or c.args.nodes.now j node0 in
     λ h e w. let y = first_none c.args.least c.emit_strict-fault.result j (sym c.first_of.ensures ∙ h) in let z = written_at c.args.nodes.now j node e p (rw c.in-Emit.is at w) in
     subst (λ (x : ℕ). IsValue (sort_at c.args._kinds.now x) (word c.emit_strict-fault.new.words x)) z.2 (c.emit_strict-fault.ensures.values (c.is_whole-whole.ensures ∙ lacks_none c.args.least y.0) y.1 z.0 z.1)
@@ -83,7 +84,7 @@ returns-in-Emit-clause-gives g c =
     let j = c.in-Emit.block in
     let hn : j < length c.args.nodes.now = rw c.in-Emit.is at c.requires.names in
     let b = here c.args.blocks.now j c.index-blocks-block.result (omega (arith, c.requires.laid.same)) c.index-blocks-block.is in
-    let p = at c.args.nodes.now j node0 hn in
+    let p = slice_get-get_or c.args.nodes.now j node0 hn in
     let node : Node = get_or c.args.nodes.now j node0 in
     let t = to_z-of_z w64 c.args.now c.ranges.now in
     λ r s. let z = s j _ _ b p in
@@ -96,7 +97,7 @@ returns-in-Emit-clause-fault g c =
     let j = c.in-Emit.block in
     let hn : j < length c.args.nodes.now = rw c.in-Emit.is at c.requires.names in
     let b = here c.args.blocks.now j c.index-blocks-block.result (omega (arith, c.requires.laid.same)) c.index-blocks-block.is in
-    let p = at c.args.nodes.now j node0 hn in
+    let p = slice_get-get_or c.args.nodes.now j node0 hn in
     let node : Node = get_or c.args.nodes.now j node0 in
     let t = to_z-of_z w64 c.args.now c.ranges.now in
     λ r s. let z = s j _ _ b p in

@@ -1,10 +1,11 @@
 use Rattle.std.proofs.Common.{arith, ℕ, ◌∙◌, get_or, Option}
 use Rattle.std.proofs.lemmas.Int.{to_z-of_z}
+use Rattle.std.proofs.lemmas.Option.{slice_get-get_or}
 use Rattle.std.specs.Int.{w64}
 use Rattle.cdl_values.specs.History.{word}
 use Rattle.cdl_pass.specs.declared.net.Action.{Action}
 use Rattle.cdl_pass.specs.Net.{blocks_of, net_of}
-use Rattle.cdl_pass.proofs.Passing.{at, passed_next, typed_next, all_solved, all_typed, all_values, first_fault, no_fault, agree_all, starts_kept, state_kept, spent_next, found, found_none, none_found}
+use Rattle.cdl_pass.proofs.Passing.{passed_next, typed_next, all_solved, all_typed, all_values, first_fault, no_fault, agree_all, starts_kept, state_kept, spent_next, found, found_none, none_found}
 use Rattle.cdl_pass.proofs.pass.emit_all.Goals as goal
 
 pub advance-least-requires-clause-sound : goal.advance-least-requires-clause-sound
@@ -23,7 +24,7 @@ loop-i-preserved g c =
     let inv = c.loop-i.invariant in
     let i = c.loop-i.i in
     let action : Action = get_or c.args.actions.now i (Action.Input 0 0) in
-    let is = at c.args.actions.now i (Action.Input 0 0) (omega (arith, c.loop-i-test.true)) in
+    let is = slice_get-get_or c.args.actions.now i (Action.Input 0 0) (omega (arith, c.loop-i-test.true)) in
     let e = c.advance-least.ensures in
     let new : Option ℕ = c.advance-least.result in
     let s = spent_next c.args.actions.now i action is in

@@ -1,9 +1,10 @@
 use Rattle.std.proofs.Common.{arith, ◌≡◌, ◌∙◌, sym, true, false}
 use Rattle.std.proofs.lemmas.Bool.{false≢true}
 use Rattle.std.proofs.lemmas.Int.{to_z-of_z}
+use Rattle.std.proofs.lemmas.Option.{slice_get-get_or, slice_get_within}
 use Rattle.std.specs.Int.{w64}
 use Rattle.cdl_pass.specs.declared.net.Node.{Node}
-use Rattle.cdl_pass.proofs.Passing.{here, at, within}
+use Rattle.cdl_pass.proofs.Passing.{here}
 use Rattle.cdl_pass.proofs.Running.{checked_next, first_unsound}
 use Rattle.cdl_pass.proofs.start.first_unsound.Goals as goal
 
@@ -15,7 +16,7 @@ sound_one-requires-clause-lies g c =
     let i = c.loop-i.i in
     let t = to_z-of_z w64 c.args.last c.ranges.last in
     let b = here c.args.blocks.now i c.index-blocks-i.result (omega (arith, c.requires.laid.same, c.loop-i-test.true)) c.index-blocks-i.is in
-    let p = at c.args.nodes.now i node0 (omega (arith, c.loop-i-test.true)) in
+    let p = slice_get-get_or c.args.nodes.now i node0 (omega (arith, c.loop-i-test.true)) in
     let f = c.requires.laid.each i _ _ b p in
     f.lies
 
@@ -24,7 +25,7 @@ sound_one-requires-clause-state g c =
     let i = c.loop-i.i in
     let t = to_z-of_z w64 c.args.last c.ranges.last in
     let b = here c.args.blocks.now i c.index-blocks-i.result (omega (arith, c.requires.laid.same, c.loop-i-test.true)) c.index-blocks-i.is in
-    let p = at c.args.nodes.now i node0 (omega (arith, c.loop-i-test.true)) in
+    let p = slice_get-get_or c.args.nodes.now i node0 (omega (arith, c.loop-i-test.true)) in
     let f = c.requires.laid.each i _ _ b p in
     f.width
 
@@ -33,7 +34,7 @@ returns-then-not-sound_one-clause-first g c =
     let i = c.loop-i.i in
     let t = to_z-of_z w64 c.args.last c.ranges.last in
     let b = here c.args.blocks.now i c.index-blocks-i.result (omega (arith, c.requires.laid.same, c.loop-i-test.true)) c.index-blocks-i.is in
-    let p = at c.args.nodes.now i node0 (omega (arith, c.loop-i-test.true)) in
+    let p = slice_get-get_or c.args.nodes.now i node0 (omega (arith, c.loop-i-test.true)) in
     let f = c.requires.laid.each i _ _ b p in
     let k : c.sound_one.result ≡ false = cc in
     let a = rw t at c.sound_one.ensures.answer in
@@ -44,7 +45,7 @@ returns-then-not-sound_one-clause-standing g c =
     let i = c.loop-i.i in
     let t = to_z-of_z w64 c.args.last c.ranges.last in
     let b = here c.args.blocks.now i c.index-blocks-i.result (omega (arith, c.requires.laid.same, c.loop-i-test.true)) c.index-blocks-i.is in
-    let p = at c.args.nodes.now i node0 (omega (arith, c.loop-i-test.true)) in
+    let p = slice_get-get_or c.args.nodes.now i node0 (omega (arith, c.loop-i-test.true)) in
     let f = c.requires.laid.each i _ _ b p in
     let k : c.sound_one.result ≡ false = cc in
     λ s. let z = s i _ _ b p in
@@ -57,7 +58,7 @@ loop-i-preserved g c =
     let i = c.loop-i.i in
     let t = to_z-of_z w64 c.args.last c.ranges.last in
     let b = here c.args.blocks.now i c.index-blocks-i.result (omega (arith, c.requires.laid.same, c.loop-i-test.true)) c.index-blocks-i.is in
-    let p = at c.args.nodes.now i node0 (omega (arith, c.loop-i-test.true)) in
+    let p = slice_get-get_or c.args.nodes.now i node0 (omega (arith, c.loop-i-test.true)) in
     let f = c.requires.laid.each i _ _ b p in
     let k : c.sound_one.result ≡ true = cc in
     record { checked = checked_next _ _ c.loop-i.invariant.checked b p (c.sound_one.ensures.answer.0 k) }
@@ -65,4 +66,4 @@ loop-i-preserved g c =
 pub returns-clause-sound : goal.returns-clause-sound
 returns-clause-sound g c =
     let t = to_z-of_z w64 c.args.last c.ranges.last in
-    λ _ j b p u v. let k = within c.args.nodes.now j p v in rw t at (c.loop-i.invariant.checked.done j b p u v (omega (arith, k, c.loop-i-test.false)))
+    λ _ j b p u v. let k = slice_get_within c.args.nodes.now j p v in rw t at (c.loop-i.invariant.checked.done j b p u v (omega (arith, k, c.loop-i-test.false)))

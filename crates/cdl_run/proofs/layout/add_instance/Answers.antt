@@ -1,6 +1,6 @@
 use Rattle.std.proofs.Common.{arith, ap, sym, ◌∙◌, ◌+◌, ◌≡◌}
+use Rattle.std.proofs.lemmas.Result.{IfOk-weaker}
 use Rattle.cdl_pass.specs.declared.net.Node.{Node}
-use Rattle.cdl_schedule.proofs.Loops.{if_ok}
 use Rattle.cdl_run.specs.Words.{state_place}
 use Rattle.cdl_connect.proofs.Windows.{of_kind}
 use Rattle.cdl_schedule.proofs.Causes.{read_is}
@@ -35,4 +35,4 @@ returns-in_ok-push-in-Elementary-3-clause-place c =
     let a = place_add c.args.net.now c.args.i c.index-items-i.result c.in-Elementary.kind c.in-Elementary.params s c.in-Elementary.is in
     let b = c.requires.place in
     let behind : c.args.place + c.node-node.result.width ≡ state_place c.args.net.now (c.args.i + 1) = omega (arith, w, a, b) in
-    if_ok (λ p. p ≡ c.args.place + c.node-node.result.width) (λ p. p ≡ state_place c.args.net.now (c.args.i + 1)) c.place_behind.result (λ p e. e ∙ behind) c.place_behind.ensures
+    IfOk-weaker c.place_behind.result (λ p. p ≡ c.args.place + c.node-node.result.width) (λ p. p ≡ state_place c.args.net.now (c.args.i + 1)) (λ p e. e ∙ behind) c.place_behind.ensures
