@@ -94,7 +94,7 @@ cut_by s ts rest t head (u ∷ us) i f z g h =
     record {
       fault = fault_on s.network ts (t ∷ rest) [] head (u ∷ us) f z ∙ ap (λ p. or_later t.time p (fault_of s.network (seen t u ∷ after [] ts head) rest us)) e;
       text = records_on s ts (t ∷ rest) [] head (u ∷ us) f z
-          ∙ ap (λ l. records_of s [] ts head ++ l) (unless_some o _ i e)
+          ∙ ap (λ l. records_of s [] ts head ++ l) (unless_some o (record_of s t u ++ records_of s (seen t u ∷ after [] ts head) rest us) i e)
           ∙ append-nil (records_of s [] ts head);
     }
 
