@@ -156,8 +156,8 @@ first_in {A} f (x ∷ xs) i e = at (f x) e
     at true q = inl (let g : x ≡ i = cc in sym g)
     at false q = inr (first_in f xs i q)
 
-pair_is : {A : Type 0} (x y : A) → Some x ≡ Some y → x ≡ y
-pair_is x y q = cc
+pair_is : {I : Type 0} (p q : ℤ × I) → Some p ≡ Some q → p ≡ q
+pair_is p q e = cc
 
 pub fault_among : {I E : Type 0} (n : Network I E) (ts : List Tick) (past : List (Seen E)) (vs : List (Valuation E)) (time : ℤ) (i : I) → fault_of n past ts vs ≡ Some (time, i) → In i n.instances
 fault_among n [] past vs time i e = absurd (cc)
@@ -167,5 +167,5 @@ fault_among {I} n (t ∷ ts) past (v ∷ vs) time i e = at (first_fault n past t
     at : (o : Option I) → first_fault n past t v ≡ o → or_later t.time o (fault_of n (seen t v ∷ past) ts vs) ≡ Some (time, i) → In i n.instances
     at None z q = fault_among n ts (seen t v ∷ past) vs time i q
     at (Some j) z q =
-        let p = pair_is (t.time, j) (time, i) q in
+        let p = pair_is {I = I} (t.time, j) (time, i) q in
         first_in (is_faulty n past t v) n.instances i (z ∙ ap (λ (w : ℤ × I). Some w.1) p)

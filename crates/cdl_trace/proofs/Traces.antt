@@ -70,14 +70,14 @@ records_begin s ts rest vs us o r h =
           ∙ ap (λ l. l ++ records_of s (after [] ts f.head) rest f.tail) (one_text s ts f.head vs o f.solves r.0),
     )
 
+some_is : {I : Type 0} (p q : ℤ × I) → Some p ≡ Some q → p ≡ q
+some_is p q e = cc
+
 here_is : {I : Type 0} (time : ℤ) (o : Option I) (i : I) (time2 : ℤ) → or_later time o None ≡ Some (time2, i) → o ≡ Some i
 here_is time None i time2 e = absurd (cc)
-here_is time (Some j) i time2 e =
-    let p : (time, j) ≡ (time2, i) = some_is (time, j) (time2, i) e in
-    ap (λ q. Some q.1) p
-  where
-    some_is : {A : Type 0} (x y : A) → Some x ≡ Some y → x ≡ y
-    some_is x y e = cc
+here_is {I} time (Some j) i time2 e =
+    let p = some_is {I = I} (time, j) (time2, i) e in
+    ap (λ (q : ℤ × I). Some q.1) p
 
 -- a fault at this tick, in each solution
 pub record Cut {I E : Type 0} (s : Labelled I E) (ts rest : List Tick) (t : Tick) (vs us : List (Valuation E)) (i : I) : Type 0 where
