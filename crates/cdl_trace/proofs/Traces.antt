@@ -11,7 +11,7 @@ use Rattle.cdl_network.proofs.Solving.{fault_more, one_fault, solves_more}
 use Rattle.cdl_table.specs.TableRow.{TableRow}
 use Rattle.cdl_table.specs.Trace.{header_text}
 use Rattle.cdl_trace.specs.Columns.{Labelled, output_columns}
-use Rattle.cdl_trace.specs.Ends.{Ends, fault_in, record_of, records_of, ticks_of, trace_of, unless}
+use Rattle.cdl_trace.specs.Ends.{Ends, fault_in, fault_text, record_of, records_of, ticks_of, trace_of, unless}
 use Rattle.cdl_trace.specs.inner.Steps.{Gives}
 use Rattle.cdl_trace.proofs.Fronts.{Front, fault_on, front, records_on, same_records, unless_some}
 
@@ -46,7 +46,7 @@ ends_by s rows us o f =
     record {
       solution = us;
       solves = f;
-      fault_is = λ vs g. ap (option_map (λ h. (h.0, s.path h.1))) (one_end s.network (ticks_of rows) us vs o f g);
+      fault_is = λ vs g. ap (option_map (fault_text s)) (one_end s.network (ticks_of rows) us vs o f g);
       text_is = λ vs g. ap (λ l. header_text (output_columns s) ++ l) (one_text s (ticks_of rows) us vs o f g);
     }
 
