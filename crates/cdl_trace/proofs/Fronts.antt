@@ -148,24 +148,24 @@ last_of_run {I} {E} n ts t vs r =
 
 -- ---- the instance of a fault
 
+first_at : {A : Type 0} (f : A → Bool) (x i : A) (xs : List A) (b : Bool) → cond b (Some x) (first_that f xs) ≡ Some i → (first_that f xs ≡ Some i → In i xs) → In i (x ∷ xs)
+first_at f x i xs true q h = inl (let g : x ≡ i = cc in sym g)
+first_at f x i xs false q h = inr (h q)
+
 first_in : {A : Type 0} (f : A → Bool) (xs : List A) (i : A) → first_that f xs ≡ Some i → In i xs
 first_in f [] i e = absurd (cc)
-first_in {A} f (x ∷ xs) i e = at (f x) e
-  where
-    at : (b : Bool) → cond b (Some x) (first_that f xs) ≡ Some i → In i (x ∷ xs)
-    at true q = inl (let g : x ≡ i = cc in sym g)
-    at false q = inr (first_in f xs i q)
+first_in f (x ∷ xs) i e = first_at f x i xs (f x) e (first_in f xs i)
 
 pair_is : {I : Type 0} (p q : ℤ × I) → Some p ≡ Some q → p ≡ q
 pair_is p q e = cc
 
+fault_here : {I E : Type 0} (n : Network I E) (past : List (Seen E)) (t : Tick) (v : Valuation E) (time : ℤ) (i : I) (o : Option I) (l : Option (ℤ × I)) → first_fault n past t v ≡ o → or_later t.time o l ≡ Some (time, i) → (l ≡ Some (time, i) → In i n.instances) → In i n.instances
+fault_here n past t v time i None l z q h = h q
+fault_here {I} n past t v time i (Some j) l z q h =
+    let p = pair_is {I = I} (t.time, j) (time, i) q in
+    first_in (is_faulty n past t v) n.instances i (z ∙ ap (λ (w : ℤ × I). Some w.1) p)
+
 pub fault_among : {I E : Type 0} (n : Network I E) (ts : List Tick) (past : List (Seen E)) (vs : List (Valuation E)) (time : ℤ) (i : I) → fault_of n past ts vs ≡ Some (time, i) → In i n.instances
 fault_among n [] past vs time i e = absurd (cc)
 fault_among n (t ∷ ts) past [] time i e = absurd (cc)
-fault_among {I} n (t ∷ ts) past (v ∷ vs) time i e = at (first_fault n past t v) refl e
-  where
-    at : (o : Option I) → first_fault n past t v ≡ o → or_later t.time o (fault_of n (seen t v ∷ past) ts vs) ≡ Some (time, i) → In i n.instances
-    at None z q = fault_among n ts (seen t v ∷ past) vs time i q
-    at (Some j) z q =
-        let p = pair_is {I = I} (t.time, j) (time, i) q in
-        first_in (is_faulty n past t v) n.instances i (z ∙ ap (λ (w : ℤ × I). Some w.1) p)
+fault_among n (t ∷ ts) past (v ∷ vs) time i e = fault_here n past t v time i (first_fault n past t v) (fault_of n (seen t v ∷ past) ts vs) refl e (fault_among n ts (seen t v ∷ past) vs time i)

@@ -75,21 +75,19 @@ is_later r rows i s rise h =
     subst (λ (t : ℤ). t <ℤ (row_at rows i).time) (sym e) (rises_at rows (negsuc 0) i rise h)
 
 -- words of columns are words of the elements
+column_at : (f : ℕ → Column) (x : ℕ) (xs : List ℕ) (w : ℤ) (ws : List ℤ) → IsValue (f x).value_type w → ((k y : ℕ) → slice_get xs k ≡ Some y → IsValue (f y).value_type (word ws k)) → (k y : ℕ) → slice_get (x ∷ xs) k ≡ Some y → IsValue (f y).value_type (word (w ∷ ws) k)
+column_at f x xs w ws v h zero y e =
+    let q : x ≡ y = cc in
+    subst (λ z. IsValue (f z).value_type w) q v
+column_at f x xs w ws v h (suc k) y e = h k y e
+
 column_values : (f : ℕ → Column) (xs : List ℕ) (ws : List ℤ) → AreValues (map f xs) ws → (length ws ≡ length xs) × ((k x : ℕ) → slice_get xs k ≡ Some x → IsValue (f x).value_type (word ws k))
 column_values f [] [] v = (refl, λ k x e. absurd (cc))
 column_values f [] (w ∷ ws) v = absurd v
 column_values f (x ∷ xs) [] v = absurd v
 column_values f (x ∷ xs) (w ∷ ws) v =
-    let r = column_values f xs ws v.1 in (
-      ap suc r.0,
-      at,
-    )
-  where
-    at : (k y : ℕ) → slice_get (x ∷ xs) k ≡ Some y → IsValue (f y).value_type (word (w ∷ ws) k)
-    at zero y e =
-        let q : x ≡ y = cc in
-        subst (λ z. IsValue (f z).value_type w) q v.0
-    at (suc k) y e = (column_values f xs ws v.1).1 k y e
+    let r = column_values f xs ws v.1 in
+    (ap suc r.0, column_at f x xs w ws v.0 r.1)
 
 pub row_is : (n : Net) (row : List ℤ) → AreValues (input_columns (labelled n)) row → IsRow n row
 row_is n row v =

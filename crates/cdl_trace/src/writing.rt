@@ -20,11 +20,12 @@ ghost use Rattle.cdl_trace.specs.inner.Steps.{CutsTick, IsFaulted, Ran, StopsRow
 
 use crate::TraceStop;
 use crate::columns::output_columns;
+use cdl_connect::Net;
 use cdl_kinds::Steps;
 use cdl_run::{RangeFault, Runner};
 use cdl_schedule::Plan;
-use cdl_source::{OutOfMemory, Sink, Text};
-use cdl_table::{Table, TraceError, TraceWriter};
+use cdl_source::{List, OutOfMemory, Sink, Text};
+use cdl_table::{Column, Table, TraceError, TraceWriter};
 use std::alloc::{AllocError, Global};
 use std::marker::Brand;
 use std::sync::ledger::{Blank, Ledger};
@@ -158,6 +159,14 @@ struct Parts {
     words: Vec<i64>,
 }
 
+// How many outputs the root has.
+fn output_count(columns: &List<Column>, _net: &Net) -> usize
+    requires { columns.now ≡ output_columns (labelled _net.now) }
+    ensures { result ≡ length (root_outputs (network_of _net.now)) }
+{
+    columns.items().len()
+}
+
 fn parts_of(alloc: Global, plan: Plan) -> Result<Parts, OutOfMemory>
     requires kinds { AreOfKinds plan.net }
     requires plain { ArePlain plan.net }
@@ -168,8 +177,9 @@ fn parts_of(alloc: Global, plan: Plan) -> Result<Parts, OutOfMemory>
     ensures writer { IfOk result (λ p. p.writer ≡ output_columns (labelled plan.net)) }
     ensures size { IfOk result (λ p. length p.words.items ≡ length (root_outputs (network_of plan.net))) }
 {
-    let columns = output_columns(alloc, plan.net().net())?;
-    let words = zeros(alloc, columns.items().len())?;
+    let net = plan.net().net();
+    let columns = output_columns(alloc, net)?;
+    let words = zeros(alloc, output_count(&columns, net))?;
     Ok(Parts {
         runner: Runner::start(alloc, plan)?,
         writer: TraceWriter::new(alloc, columns)?,

@@ -1,4 +1,6 @@
-use Rattle.std.proofs.Common.{arith}
+use Rattle.std.proofs.Common.{◌≡◌, ◌∙◌, arith, of_z, rules, to_z, w64}
+use mir.Val.{SFits}
+use Rattle.std.proofs.lemmas.Int.{ints}
 use Rattle.cdl_values.specs.History.{word}
 use Rattle.cdl_connect.specs.Nets.{network_of}
 use Rattle.cdl_trace.specs.Columns.{root_outputs}
@@ -7,7 +9,9 @@ use Rattle.cdl_trace.proofs.writing.take_outputs.Goals as goal
 
 pub loop-i-preserved : goal.loop-i-preserved
 loop-i-preserved c =
-    words_next (word c.args.runner.now.words) (root_outputs (network_of c.args.runner.now.net)) c.loop-i.words c.loop-i.i c.output.result (omega (arith, c.loop-i-test.true)) (omega (arith, c.requires)) c.loop-i.invariant c.output.ensures
+    let fits : SFits w64 c.output.result = search rules in
+    let same : to_z w64 (of_z w64 c.output.result) ≡ c.output.result = omega (arith, ints) in
+    words_next (word c.args.runner.now.words) (root_outputs (network_of c.args.runner.now.net)) c.loop-i.words c.loop-i.i (to_z w64 (of_z w64 c.output.result)) (omega (arith, c.loop-i-test.true)) (omega (arith, c.requires)) c.loop-i.invariant (same ∙ c.output.ensures)
 
 pub returns : goal.returns
 returns c =

@@ -40,4 +40,4 @@ returns-clause-err g c =
     c.write_rows.ensures.err
 
 pub returns-clause-answered : goal.returns-clause-answered
-returns-clause-answered g c = subst (λ k. FaultIsAnswered k (g.O.Sink.faults c.write_rows.new.out) c.write_rows.result) c.in_ok-header.ensures.answered c.write_rows.ensures.answered
+returns-clause-answered g c = subst (λ k. FaultIsAnswered {T = Unit {0}} k (g.O.Sink.faults c.write_rows.new.out) c.write_rows.result) c.in_ok-header.ensures.answered c.write_rows.ensures.answered

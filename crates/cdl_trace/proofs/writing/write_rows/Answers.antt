@@ -76,7 +76,7 @@ pub returns-in_err-write_tick-clause-answered : goal.returns-in_err-write_tick-c
 returns-in_err-write_tick-clause-answered g c =
     let p = err_from_is_err_and c.from_residual.result c.from_residual.ensures.1 in
     rw (p.1, p.2)
-    (subst (λ k. FaultIsAnswered k (g.O.Sink.faults c.write_tick.new.out) (Err c.in_err-write_tick.field-0.0)) c.loop-number.invariant.kept c.in_err-write_tick.ensures.answered)
+    (subst (λ k. FaultIsAnswered {T = Unit {0}} k (g.O.Sink.faults c.write_tick.new.out) (Err c.in_err-write_tick.field-0.0)) c.loop-number.invariant.kept c.in_err-write_tick.ensures.answered)
 
 pub returns-clause-ok : goal.returns-clause-ok
 returns-clause-ok g c =
