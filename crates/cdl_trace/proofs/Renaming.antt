@@ -104,7 +104,7 @@ ends_under a b m n rows fault text o s e =
     let f = e.fault_is e.solution e.solves ∙ fault_same a b m n rows e.solution s in
     let t = e.text_is e.solution e.solves ∙ trace_same a b m n rows e.solution s in
     record {
-      solution = us;
+      solution = k.solution;
       solves = k.solves;
       fault_is = λ vs g. f ∙ k.fault_is vs g;
       text_is = λ vs g. t ∙ k.text_is vs g;
