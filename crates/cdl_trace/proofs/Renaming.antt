@@ -1,5 +1,5 @@
 -- The trace of a network under other names.
-use Rattle.std.proofs.Common.{◌≡◌, ◌∙◌, ℤ, ℕ, ◌&&◌, not, List, [], ◌∷◌, ◌++◌, map, filter, Option, Some, None, refl, sym, ap, inl, inr}
+use Rattle.std.proofs.Common.{◌≡◌, ◌∙◌, ℤ, ℕ, List, [], ◌∷◌, ◌++◌, map, filter, Option, Some, None, refl, ap, inl, inr}
 use Rattle.std.specs.Option.{option_map}
 use Rattle.cdl_values.specs.declared.value.ValueType.{ValueType}
 use Rattle.cdl_network.specs.Closed.{Closed}

@@ -1,13 +1,12 @@
 -- What ticks leave on a sink.
-use Rattle.std.proofs.Common.{◌≡◌, ◌∙◌, ◌+◌, ◌≤◌, ◌<◌, ◌⊎◌, ℕ, suc, ℤ, List, [], ◌∷◌, ◌++◌, length, map, take, drop, Option, Some, None, Err, refl, sym, ap, subst, inl, inr, append_assoc, length-append, arith}
+use Rattle.std.proofs.Common.{◌≡◌, ◌∙◌, ◌+◌, ◌≤◌, ℕ, ℤ, List, [], ◌∷◌, ◌++◌, length, take, Option, Some, None, Err, refl, sym, ap, subst, inl, inr, append_assoc, length-append, arith}
 use Rattle.std.proofs.lemmas.List.{take_all, take-append-le}
 use Rattle.std.proofs.Math.Seq.{take-append-add}
 use Rattle.std.specs.Option.{option_map}
-use Rattle.cdl_source.specs.Causes.{Rose}
 use Rattle.cdl_source.specs.Outside.{written_after}
 use Rattle.cdl_source.specs.Whole.{WritesSome}
 use Rattle.cdl_source.proofs.Written.{written_after-append, written_nothing}
-use Rattle.cdl_network.specs.Ticks.{Runs, Solves, Tick, Valuation, fault_of}
+use Rattle.cdl_network.specs.Ticks.{Solves, Tick, Valuation, fault_of}
 use Rattle.cdl_connect.specs.declared.net.Net.{Net}
 use Rattle.cdl_connect.specs.Nets.{network_of}
 use Rattle.cdl_table.specs.TableRow.{TableRow}
@@ -20,7 +19,7 @@ use Rattle.cdl_trace.specs.Columns.{Labelled, labelled, output_columns}
 use Rattle.cdl_trace.specs.Ends.{Ends, fault_in, fault_text, records_of, ticks_of, trace_of}
 use Rattle.cdl_trace.specs.Prints.{FaultIsAnswered, Prints, PrintsSome, Stops}
 use Rattle.cdl_trace.specs.inner.Steps.{CutsTick, Gives, IsFaulted, Ran, RanSome, SomeOfTick, StopsRows, Wrote, WroteTick, stop_of}
-use Rattle.cdl_trace.proofs.Traces.{Sole, cut_here, ends_by, records_begin, records_more, some_end}
+use Rattle.cdl_trace.proofs.Traces.{Sole, cut_here, ends_by, records_begin, records_more}
 
 -- ---- fronts of texts
 

@@ -1,14 +1,13 @@
 -- What a runner gives at a tick of a table.
 use Rattle.std.proofs.Common.{◌≡◌, ◌∙◌, ◌+◌, ◌<◌, ℕ, zero, suc, ℤ, pos, ◌<ℤ◌, negsuc, List, [], ◌∷◌, ◌++◌, length, map, take, drop, Option, Some, None, slice_get, refl, sym, ap, subst, inl, inr, arith}
-use Rattle.std.proofs.lemmas.List.{length-map, map-append, take_more, take-append-drop}
+use Rattle.std.proofs.lemmas.List.{map-append, take_more, take-append-drop}
 use Rattle.std.proofs.Math.Seq.{drop-cons}
-use Rattle.std.proofs.lemmas.Option.{slice_get_within}
 use Rattle.cdl_values.specs.declared.value.ValueType.{ValueType}
-use Rattle.cdl_values.specs.History.{IsTime, IsValue, word}
+use Rattle.cdl_values.specs.History.{IsValue, word}
 use Rattle.cdl_network.specs.Dependence.{NoLoop, root_inputs}
 use Rattle.cdl_network.specs.Lists.{In}
 use Rattle.cdl_network.specs.Network.{Network}
-use Rattle.cdl_network.specs.Ticks.{Goes, Runs, Seen, Solves, Tick, Valuation, after, fault_of, first_fault, or_later, seen, word_of, words}
+use Rattle.cdl_network.specs.Ticks.{Runs, Seen, Solves, Tick, Valuation, after, fault_of, first_fault, seen, word_of, words}
 use Rattle.cdl_network.proofs.Inside.{in_filter}
 use Rattle.cdl_connect.specs.declared.net.Net.{Net}
 use Rattle.cdl_connect.specs.declared.net.NetInstance.{NetInstance}
@@ -20,13 +19,13 @@ use Rattle.cdl_connect.proofs.Windows.{direct_alone}
 use Rattle.cdl_pass.proofs.Passing.{there}
 use Rattle.cdl_pass.proofs.Ready.{value_some}
 use Rattle.cdl_run.specs.Running.{Running, Stands}
-use Rattle.cdl_run.specs.Runs.{AreShown, HasFault, IsRow, RunStands, last_time, tick_at}
+use Rattle.cdl_run.specs.Runs.{AreShown, HasFault, IsRow, last_time, tick_at}
 use Rattle.cdl_run.specs.Words.{valuation}
 use Rattle.cdl_run.proofs.Values.{some_value}
 use Rattle.cdl_table.specs.declared.column.Column.{Column}
 use Rattle.cdl_table.specs.TableRow.{TableRow, row_at, row_with}
 use Rattle.cdl_table.specs.Trace.{record_text}
-use Rattle.cdl_table.specs.Values.{AreValues, HaveValues}
+use Rattle.cdl_table.specs.Values.{AreValues}
 use Rattle.cdl_trace.specs.declared.stop.TraceStop.{TraceStop}
 use Rattle.cdl_trace.specs.Columns.{column_of, input_columns, is_root_output, labelled, output_columns, root_outputs}
 use Rattle.cdl_trace.specs.Ends.{tick_of, ticks_of}
