@@ -31,6 +31,7 @@ use Rattle.cdl_run.specs.inner.Ready.{IsReady}
 use Rattle.cdl_run.specs.inner.Setting.{IsSet, past_at}
 use Rattle.cdl_run.proofs.Laying.{laid, planned, read_mapped}
 use Rattle.cdl_run.proofs.Meeting.{Now}
+use Rattle.cdl_run.proofs.Typing.{type_is}
 use Rattle.cdl_run.proofs.Running.{faults, histories, stands_first, stands_next, starts}
 
 pub laid_at : {B : Type 0} {m : Blocks B} {n : Net} {bs : List B} {ps : List Node} {actions : List Action} {kinds rows : List ValueType} (size : ℕ) → IsSet m n bs ps actions kinds rows → size ≡ state_place n (length n.instances) → Laid m (net_of bs ps actions kinds rows) size
@@ -152,3 +153,9 @@ words_total n = let e = numbers_length 0 (length n.elements) in omega (arith, e)
 
 pub start_size : (n : Net) (old new : List ℤ) → length old ≡ state_place n (length n.instances) → length new ≡ length old → length (refill (length old) old new) ≡ word_count (network_of n)
 start_size n old new s e = ap length (refill_all old new e) ∙ e ∙ s ∙ words_total n
+
+-- each element has a value of its type
+pub element_values : {B : Type 0} {m : Blocks B} {n : Net} {bs : List B} {ps : List Node} {actions : List Action} {kinds rows : List ValueType} (w : List ℤ) → IsSet m n bs ps actions kinds rows → ((e : ℕ) → e < length kinds → IsValue (sort_at kinds e) (word w e)) → (e : ℕ) → e < length n.elements → IsValue ((network_of n).value_type e) (word w e)
+element_values {n = n} {kinds = kinds} w s va e h =
+    let l : length kinds ≡ length n.elements = ap length s.kinds_are ∙ length-map n.elements (λ x. x.value_type) in
+    subst (λ (t : ValueType). IsValue t (word w e)) (type_is n e) (subst (λ z. IsValue (sort_at z e) (word w e)) s.kinds_are (va e (omega (arith, h, l))))

@@ -1,7 +1,7 @@
 // The runner.
 ghost use Rattle.std.specs.Prelude.{◌≡◌, ◌+◌, ◌<◌, ◌≤◌, ◌++◌, ◌∷◌, ◌<ℤ◌, [], ℕ, ℤ, List, Err, IfErr, IfOk, IfSome, MatchResult, None, OnOk, Some, get_or, length, negsuc, slice_get};
 ghost use Rattle.std.specs.Option.{option_map};
-ghost use Rattle.cdl_values.specs.History.{IsTime, word};
+ghost use Rattle.cdl_values.specs.History.{IsTime, IsValue, word};
 ghost use Rattle.cdl_network.specs.Rules.{word_count};
 ghost use Rattle.cdl_network.specs.Ticks.{Tick};
 ghost use Rattle.cdl_connect.specs.declared.net.NetInstance.{NetInstance as InstanceOf};
@@ -182,7 +182,7 @@ impl Runner {
         })
     }
 
-    /// One tick at this time, with a word for each input of the root. It takes no memory.
+    /// One tick at this time, with a word for each input of the root. Each element then has a value of its type. It takes no memory.
     /// RangeFault: the first elementary instance in preorder whose direct inputs all have values, and whose meaning has none.
     /// Each further tick then answers the same.
     pub fn tick<L: Ledger>(
@@ -196,6 +196,7 @@ impl Runner {
         requires row { IsRow self.old.net row.now }
         ensures net { self.new.net ≡ self.old.net }
         ensures size { length self.new.words ≡ length self.old.words }
+        ensures values { OnOk result ((e : ℕ) → e < length self.old.net.elements → IsValue ((network_of self.old.net).value_type e) (word self.new.words e)) }
         ensures step { OnOk result (steps.new ≡ steps.old + elementary_count self.old.net) }
         ensures few { steps.new ≤ steps.old + elementary_count self.old.net }
         ensures ok { (ts : List Tick) → Stands self.old ts → OnOk result (Stands self.new (ts ++ tick_at now row.now ∷ [])) }

@@ -9,8 +9,11 @@ use Rattle.cdl_pass.specs.Tick.{FirstFault, NoFault, Past, Solves, Starts}
 use Rattle.cdl_run.specs.inner.AnyBlocks.{any_blocks}
 use Rattle.cdl_run.specs.Runs.{HasFault, IsRow, RunStands, tick_at}
 use Rattle.cdl_run.specs.Running.{Stands}
-use Rattle.cdl_run.proofs.Ticking.{fault_at, laid_at, moved, next_ready, none_fault, planned_at, refill_all, row_at, tick_fault, tick_ok}
-use Rattle.std.proofs.Common.{◌+◌, List}
+use Rattle.cdl_run.proofs.Ticking.{element_values, fault_at, laid_at, moved, next_ready, none_fault, planned_at, refill_all, row_at, tick_fault, tick_ok}
+use Rattle.std.proofs.Common.{◌+◌, ◌<◌, List}
+use Rattle.std.specs.List.{refill}
+use Rattle.cdl_values.specs.History.{IsValue}
+use Rattle.cdl_connect.specs.Nets.{network_of}
 use Rattle.cdl_pass.specs.declared.net.Action.{Action}
 use Rattle.cdl_pass.specs.Tick.{spent_in}
 use Rattle.cdl_run.specs.Words.{elementary_count}
@@ -99,3 +102,12 @@ returns-in-Err-clause-few g c =
     let e = one_emit_each c.self.invariant.0.set in
     let s = a ∙ e ∙ ap (λ r. elementary_count r.net) c.self.view_is in
     omega (arith, c.in-Err.ensures.few, s)
+
+pub returns-in-Ok-clause-values : goal.returns-in-Ok-clause-values
+returns-in-Ok-clause-values g c = λ e h.
+    let size = c.in-Ok.ensures.size ∙ ap length c.all_mut-words.ensures.value in
+    let values = rw c.deref-4.ensures.value at c.in-Ok.ensures.values in
+    let inside = subst (λ r. e < length r.net.elements) (sym c.self.view_is) h in
+    let all = refill_all c.self.inside.region.words c.tick_all.new.words size in
+    subst (λ r. IsValue ((network_of r.net).value_type e) (word (refill (length c.self.inside.region.words) c.self.inside.region.words c.tick_all.new.words) e)) c.self.view_is
+    (subst (λ w. IsValue ((network_of c.self.inside.parts.plan.net).value_type e) (word w e)) (sym all) (element_values c.tick_all.new.words c.self.invariant.0.set values e inside))

@@ -1,0 +1,5 @@
+pub mod Columns
+pub mod Ends
+pub mod Rising
+pub mod Prints
+pub mod inner
