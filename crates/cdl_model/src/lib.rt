@@ -1,0 +1,7 @@
+//! A model as a network of names, and the net of numbers that is the same network. It has no code that runs: each function is a law,
+//! and its contract is all.
+#![tactic(auto)]
+
+mod laws;
+
+pub use laws::net_is_model;
