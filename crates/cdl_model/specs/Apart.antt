@@ -11,7 +11,7 @@ use Rattle.cdl_tree.specs.declared.class.Item.{Item}
 use Rattle.cdl_walk.specs.Events.{same_steps}
 use Rattle.cdl_walk.specs.Roles.{items_of}
 use Rattle.cdl_model.specs.Names.{ElementName}
-use Rattle.cdl_model.specs.Parts.{Unfolding}
+use Rattle.cdl_model.specs.Parts.{Unfolding, AreParts}
 use Rattle.cdl_model.specs.Networks.{paths, names, parent_path, content_at, is_elementary}
 
 -- no name is declared twice in a class
@@ -31,6 +31,12 @@ pub record AreWires (u : Unfolding) : Type 0 where
   pub composite : (v : Wire (List Step) ElementName) → In v u.wires → is_elementary (content_at u.instances v.scope) ≡ false
   pub left : (v : Wire (List Step) ElementName) → In v u.wires → In v.left (names u.elements)
   pub right : (v : Wire (List Step) ElementName) → In v u.wires → In v.right (names u.elements)
+
+-- what is known of a model and of its lists
+pub record IsUnfolded (w : Model) (u : Unfolding) : Type 0 where
+  pub names : NamesApart w
+  pub parts : AreParts w u
+  pub wires : AreWires u
 
 -- the element is one of the instance, or of a part of it
 abbrev pub IsNear : List Step → ElementName → Type 0

@@ -16,7 +16,7 @@ use Rattle.cdl_walk.specs.Instances.{Seen, Owned}
 use Rattle.cdl_walk.specs.Texts.{path_text, step_text}
 use Rattle.cdl_model.specs.Names.{ElementName}
 use Rattle.cdl_model.specs.Parts.{Unfolding, own}
-use Rattle.cdl_model.specs.Networks.{paths, names, parent_path, same_name}
+use Rattle.cdl_model.specs.Networks.{paths, names, name_of, parent_path, same_name}
 
 abbrev pub instance_number : List Seen → List Step → ℕ
 instance_number ss p = number same_steps (paths ss) p
@@ -38,13 +38,14 @@ net_instance u s = record {
   count = length (own u.elements s.path);
 }
 
-abbrev pub step_of : Owned → Step
-step_of x = record { name = x.point.name; indices = x.point.indices }
+-- the text of an element in its instance, such as `u[2]`
+abbrev pub name_text : ElementName → List ℕ
+name_text x = step_text (record { name = x.name; indices = x.indices })
 
 abbrev pub net_element : Unfolding → Owned → NetElement
 net_element u x = record {
   instance = instance_number u.instances x.path;
-  name = step_text (step_of x);
+  name = name_text (name_of x);
   value_type = x.point.value_type;
   unit = x.point.unit;
   input = x.point.input;

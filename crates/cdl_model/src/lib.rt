@@ -4,4 +4,6 @@
 
 mod laws;
 
-pub use laws::net_is_model;
+pub use laws::{
+    model_is_a_network, net_is_model, parts_are_one, rules_are_the_nets, solutions_are_the_nets,
+};
