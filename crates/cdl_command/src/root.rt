@@ -6,7 +6,7 @@ ghost use Rattle.cdl_command.specs.inner.Reads.{AreShort};
 ghost use Rattle.cdl_command.specs.inner.Stops.{Stops, StopsAtClasses, HasRoot, HasFlat, RefusesBlock, refusal_in};
 ghost use Rattle.cdl_command.specs.Texts.{HaveTrees};
 
-use crate::outcome::Spot;
+use cdl_job::Spot;
 use crate::stop::{Refusal, Stop, refusal_at, refusal_of, refused_root};
 use cdl_classes::{ClassFault, ClassId, ClassTable, Found};
 use cdl_flat::{Flat, Part};

@@ -1,8 +1,8 @@
 use Rattle.std.proofs.Common.{refl}
-use Rattle.cdl_command.specs.Job.{task_of_job}
-use Rattle.cdl_command.specs.declared.outcome.Outcome.TheVariants.{Usage, ReadFault, WriteFault}
-use Rattle.cdl_command.proofs.AnswerFacts.{told_as, told_made}
-use Rattle.cdl_command.proofs.report.report.Goals as goal
+use Rattle.cdl_job.specs.Job.{task_of_job}
+use Rattle.cdl_job.specs.declared.outcome.Outcome.TheVariants.{Usage, ReadFault, WriteFault}
+use Rattle.cdl_job.proofs.TellFacts.{told_as, told_made}
+use Rattle.cdl_job.proofs.tell.report.Goals as goal
 
 pub returns-in-RangeFault-clause-told : goal.returns-in-RangeFault-clause-told
 returns-in-RangeFault-clause-told g c =

@@ -1,6 +1,6 @@
 use Rattle.std.proofs.Common.{◌≡◌, ◌≤◌, drop}
-use Rattle.cdl_command.specs.Job.{sample_size, sample_size_after}
-use Rattle.cdl_command.proofs.job.number.Given as goal
+use Rattle.cdl_job.specs.Job.{sample_size, sample_size_after}
+use Rattle.cdl_job.proofs.job.number.Given as goal
 
 abbrev pub invariant-loop-digit : goal.invariant-loop-digit
 invariant-loop-digit l =

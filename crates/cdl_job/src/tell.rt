@@ -2,10 +2,10 @@
 ghost use Rattle.std.specs.Prelude.{◌≡◌, ◌++◌, ◌≤◌, [], IfOk, OnOk, MatchResult, decimal, get_or, map, string_bytes};
 ghost use Rattle.std.specs.Fmt.{signed_decimal};
 ghost use Rattle.cdl_source.specs.Causes.{Rose};
-ghost use Rattle.cdl_command.specs.Job.{task_of_job};
-ghost use Rattle.cdl_command.specs.Outcome as spec;
-ghost use Rattle.cdl_command.specs.Outcome.{no_memory_text, usage_text};
-ghost use Rattle.cdl_command.specs.Told.{Tells, Reports};
+ghost use Rattle.cdl_job.specs.Job.{task_of_job};
+ghost use Rattle.cdl_job.specs.Outcome as spec;
+ghost use Rattle.cdl_job.specs.Outcome.{no_memory_text, usage_text};
+ghost use Rattle.cdl_job.specs.Told.{Tells, Reports};
 
 use crate::job::Job;
 use crate::outcome::{Outcome, Spot};
@@ -197,7 +197,7 @@ fn tell<E: Sink>(outcome: Outcome, text: &[u8], err: &mut E) -> Outcome
 }
 
 /// Answers words that are no job. It takes no memory.
-pub(crate) fn usage<E: Sink>(err: &mut E) -> Outcome
+pub fn usage<E: Sink>(err: &mut E) -> Outcome
     ensures told { Tells Outcome.Usage usage_text result (E.written err.old) (E.written err.new) (Rose (E.faults err.old) (E.faults err.new)) }
     ensures later { E.faults err.old ≤ E.faults err.new }
 {
@@ -219,7 +219,7 @@ fn tell_made<E: Sink>(outcome: Outcome, made: Result<Text, OutOfMemory>, err: &m
 
 /// Tells `err` of an outcome of a job, whose place stands in this line and column. Where there is no memory for the text of
 /// a refusal or of a range fault, want of memory is the outcome. The other texts take no memory.
-pub(crate) fn report<E: Sink>(
+pub fn report<E: Sink>(
     alloc: Global,
     job: Job<'_>,
     line: u32,

@@ -1,8 +1,8 @@
 // The words of the command line.
 ghost use Rattle.std.specs.Prelude.{◌≡◌, ◌+◌, ◌-◌, ◌*◌, ◌^◌, ◌<◌, map, string_bytes, IfSome};
 ghost use Rattle.std.specs.Option.{option_map};
-ghost use Rattle.cdl_command.specs.Outcome.{HasFewModels};
-ghost use Rattle.cdl_command.specs.Job.{is_class_name, is_file_name, are_models, sample_size, task_of, check_of, run_of, cxf_of, check_cxf_of, run_cxf_of, sample_of, task_of_job};
+ghost use Rattle.cdl_job.specs.Outcome.{HasFewModels};
+ghost use Rattle.cdl_job.specs.Job.{is_class_name, is_file_name, are_models, sample_size, task_of, check_of, run_of, cxf_of, check_cxf_of, run_cxf_of, sample_of, task_of_job};
 
 use cdl_source::{MOST_MODELS, is_digit, is_identifier};
 

@@ -5,8 +5,8 @@ use Rattle.std.specs.Option.{option_map}
 use Rattle.std.specs.Str.{bytes_eq}
 use Rattle.cdl_source.specs.Identifiers.{is_digit, is_identifier}
 use Rattle.cdl_source.specs.declared.limits.TheConstants.{MOST_MODELS}
-use Rattle.cdl_command.specs.declared.job.Job.{Job}
-use Rattle.cdl_command.specs.declared.job.Job.TheVariants.{Check, Run, Cxf, CheckCxf, RunCxf, Sample}
+use Rattle.cdl_job.specs.declared.job.Job.{Job}
+use Rattle.cdl_job.specs.declared.job.Job.TheVariants.{Check, Run, Cxf, CheckCxf, RunCxf, Sample}
 
 -- what the words ask for, with the bytes of each word
 pub data Task : Type 0 where

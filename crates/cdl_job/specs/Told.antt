@@ -2,10 +2,10 @@
 use Rattle.std.specs.Prelude.{◌≡◌, ◌⊎◌, ℕ, List, Option, ⊤}
 use Rattle.cdl_source.specs.Outside.{written_after}
 use Rattle.cdl_source.specs.Whole.{WritesSome}
-use Rattle.cdl_command.specs.Job.{Task}
-use Rattle.cdl_command.specs.Outcome.{err_text}
-use Rattle.cdl_command.specs.declared.outcome.Outcome.{Outcome}
-use Rattle.cdl_command.specs.declared.outcome.Outcome.TheVariants.{Refused, RangeFault, WriteFault, OutOfMemory}
+use Rattle.cdl_job.specs.Job.{Task}
+use Rattle.cdl_job.specs.Outcome.{err_text}
+use Rattle.cdl_job.specs.declared.outcome.Outcome.{Outcome}
+use Rattle.cdl_job.specs.declared.outcome.Outcome.TheVariants.{Refused, RangeFault, WriteFault, OutOfMemory}
 
 -- The text was written and the outcome stays; or the sink failed behind a front of the text, and that is the outcome.
 abbrev pub Tells : Outcome → List ℕ → Outcome → Option (List ℕ) → Option (List ℕ) → Type 0 → Type 0

@@ -6,8 +6,8 @@ use Rattle.std.proofs.lemmas.Bool.Decides.{nat_tests}
 use Rattle.std.proofs.lemmas.Iterator.{YieldsList-from_slice}
 use Rattle.std.proofs.lemmas.Iterator.Search.{all_from_yields_List}
 use Rattle.std.proofs.lemmas.List.Folds.{list_all-map}
-use Rattle.cdl_command.specs.Job.{is_file_name, are_models}
-use Rattle.cdl_command.proofs.job.are_files.Goals as goal
+use Rattle.cdl_job.specs.Job.{is_file_name, are_models}
+use Rattle.cdl_job.proofs.job.are_files.Goals as goal
 
 -- a number of names that may be a job's
 counted : {X : Type 0} (f : X → List _) (xs : List X) (r : Bool) → 0 < length xs → length xs ≤ 64 → r ≡ list_all (λ x. is_file_name (f x)) xs → r ≡ are_models (map f xs)

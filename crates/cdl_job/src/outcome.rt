@@ -1,6 +1,6 @@
 // How a job ended.
 ghost use Rattle.std.specs.Prelude.{◌≡◌};
-ghost use Rattle.cdl_command.specs.Outcome.{code_of};
+ghost use Rattle.cdl_job.specs.Outcome.{code_of};
 
 use cdl_source::{Place, Text};
 

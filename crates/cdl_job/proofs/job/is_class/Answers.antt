@@ -4,8 +4,8 @@ use Rattle.std.proofs.lemmas.Iterator.Search.{all_from_yields_List}
 use Rattle.std.proofs.lemmas.Iterator.Splits.{YieldsList-from_slice_split}
 use Rattle.std.specs.Prelude.{◌==◌}
 use Rattle.cdl_source.specs.Identifiers.{is_identifier}
-use Rattle.cdl_command.specs.Job.{is_class_name}
-use Rattle.cdl_command.proofs.job.is_class.Goals as goal
+use Rattle.cdl_job.specs.Job.{is_class_name}
+use Rattle.cdl_job.proofs.job.is_class.Goals as goal
 
 pub returns : goal.returns
 returns c =

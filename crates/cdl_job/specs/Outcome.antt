@@ -3,12 +3,12 @@ use Rattle.std.specs.Prelude.{ℕ, ℤ, ◌==◌, ◌≤◌, nat_lt, length, Lis
 use Rattle.std.specs.Fmt.{signed_decimal}
 use Rattle.cdl_source.specs.declared.limits.TheConstants.{MOST_MODELS}
 use Rattle.cdl_source.specs.declared.rules.TheConstants.{MODEL_TOO_LONG, NOT_UTF8, NO_TOKEN, PAST_LIMITS, NESTED_TOO_DEEPLY, EXPRESSION_TOO_LONG, SYNTAX, WRONG_END_NAME, NOT_BUILT, DECLARED_TWICE, NAME_NOT_FREE, NAME_NOT_FOUND, NOT_SUPPORTED, NO_SUCH_BLOCK, TABLE_TOO_LONG, WRONG_FIELD_COUNT, WRONG_HEADER, NOT_A_TIME, TIME_DOES_NOT_RISE, NOT_A_VALUE, TOO_MANY_TICKS, NOT_JSON}
-use Rattle.cdl_command.specs.declared.job.Job.{Job}
-use Rattle.cdl_command.specs.Job.{Task, task_of_job, CheckOf, RunOf, CxfOf, CheckCxfOf, RunCxfOf, SampleOf}
-use Rattle.cdl_command.specs.declared.outcome.Outcome.{Outcome}
-use Rattle.cdl_command.specs.declared.outcome.Outcome.TheVariants.{Done, Refused, Usage, RangeFault, ReadFault, WriteFault, OutOfMemory}
-use Rattle.cdl_command.specs.declared.outcome.Spot.{Spot}
-use Rattle.cdl_command.specs.declared.outcome.Spot.TheVariants.{Source, Path, Statement, Wire, Cell, Node, Whole}
+use Rattle.cdl_job.specs.declared.job.Job.{Job}
+use Rattle.cdl_job.specs.Job.{Task, task_of_job, CheckOf, RunOf, CxfOf, CheckCxfOf, RunCxfOf, SampleOf}
+use Rattle.cdl_job.specs.declared.outcome.Outcome.{Outcome}
+use Rattle.cdl_job.specs.declared.outcome.Outcome.TheVariants.{Done, Refused, Usage, RangeFault, ReadFault, WriteFault, OutOfMemory}
+use Rattle.cdl_job.specs.declared.outcome.Spot.{Spot}
+use Rattle.cdl_job.specs.declared.outcome.Spot.TheVariants.{Source, Path, Statement, Wire, Cell, Node, Whole}
 
 abbrev pub code_of : Outcome → ℕ
 code_of Done = 0
