@@ -1,9 +1,10 @@
 -- What each outcome is told by: the exit code, and the text on standard error.
-use Rattle.std.specs.Prelude.{ℕ, ℤ, ◌==◌, ◌≤◌, nat_lt, length, List, [], ◌∷◌, ◌++◌, if◌then◌else◌, codes, decimal, get_or}
+use Rattle.std.specs.Prelude.{ℕ, ℤ, ◌==◌, ◌<◌, ◌≤◌, nat_lt, length, List, [], ◌∷◌, ◌++◌, if◌then◌else◌, codes, decimal, get_or}
 use Rattle.std.specs.Fmt.{signed_decimal}
 use Rattle.cdl_source.specs.declared.limits.TheConstants.{MOST_MODELS}
-use Rattle.cdl_source.specs.declared.rules.TheConstants.{MODEL_TOO_LONG, NOT_UTF8, NO_TOKEN, PAST_LIMITS, NESTED_TOO_DEEPLY, EXPRESSION_TOO_LONG, SYNTAX, WRONG_END_NAME, NOT_BUILT, DECLARED_TWICE, NAME_NOT_FREE, NAME_NOT_FOUND, NOT_SUPPORTED, NO_SUCH_BLOCK, TABLE_TOO_LONG, WRONG_FIELD_COUNT, WRONG_HEADER, NOT_A_TIME, TIME_DOES_NOT_RISE, NOT_A_VALUE, TOO_MANY_TICKS, NOT_JSON}
+use Rattle.cdl_source.specs.declared.rules.TheConstants.{MODEL_TOO_LONG, NOT_UTF8, NO_TOKEN, PAST_LIMITS, NESTED_TOO_DEEPLY, EXPRESSION_TOO_LONG, SYNTAX, WRONG_END_NAME, NOT_BUILT, DECLARED_TWICE, NAME_NOT_FREE, NAME_NOT_FOUND, NOT_SUPPORTED, NO_SUCH_BLOCK, TOO_MANY_OR_TOO_DEEP, CONTAINS_ITSELF, NOTHING_TO_MODIFY, MODIFIED_TWICE, FINAL_MODIFIED, WRONG_SHAPE, WRONG_TYPE, UNKNOWN_NAME, SIZE_OUT_OF_RANGE, PARAMETERS_TOO_DEEP, NO_VALUE, PARAMETER_WITHOUT_VALUE, PARAMETER_OUT_OF_CONDITION, UNIT_TOO_LONG, TOO_MANY_TURNS, NO_SUCH_CONNECTOR, WRONG_SUBSCRIPT, SHAPES_DIFFER, TWO_SOURCES_OR_SINKS, TYPES_DIFFER, MORE_THAN_ONE_SOURCE, NO_SOURCE, TOO_MANY_WIRES, UNITS_DIFFER, CXF_TOO_LONG, LOOP_WITHOUT_DELAY, TABLE_TOO_LONG, WRONG_FIELD_COUNT, WRONG_HEADER, NOT_A_TIME, TIME_DOES_NOT_RISE, NOT_A_VALUE, TOO_MANY_TICKS, NOT_JSON}
 use Rattle.cdl_job.specs.declared.job.Job.{Job}
+use Rattle.cdl_job.specs.declared.job.Job.TheVariants.{Check, Run, Cxf}
 use Rattle.cdl_job.specs.Job.{Task, task_of_job, CheckOf, RunOf, CxfOf, CheckCxfOf, RunCxfOf, SampleOf}
 use Rattle.cdl_job.specs.declared.outcome.Outcome.{Outcome}
 use Rattle.cdl_job.specs.declared.outcome.Outcome.TheVariants.{Done, Refused, Usage, RangeFault, ReadFault, WriteFault, OutOfMemory}
@@ -30,6 +31,13 @@ models_of _ = []
 abbrev pub HasFewModels : Job → Type 0
 HasFewModels job = length (models_of (task_of_job job)) ≤ MOST_MODELS
 
+-- a job that reads models reads one at least
+abbrev pub HasSomeModels : Job → Type 0
+HasSomeModels (Check class models) = 0 < length models.now
+HasSomeModels (Run class table models) = 0 < length models.now
+HasSomeModels (Cxf class models) = 0 < length models.now
+HasSomeModels _ = Unit {0}
+
 abbrev pub table_of : Task → List ℕ
 table_of (RunOf class table models) = table
 table_of (RunCxfOf table doc) = table
@@ -49,9 +57,9 @@ files_of (CheckCxfOf doc) = doc ∷ []
 files_of (RunCxfOf table doc) = doc ∷ table ∷ []
 files_of (SampleOf n) = []
 
--- the text of each rule
-abbrev pub rule_text : ℕ → List ℕ
-rule_text rule =
+-- the texts of the rules of texts and classes
+abbrev pub text_rule : ℕ → List ℕ
+text_rule rule =
     if rule == MODEL_TOO_LONG then codes "model file too long"
     else if rule == NOT_UTF8 then codes "not UTF-8"
     else if rule == NO_TOKEN then codes "no token here"
@@ -66,7 +74,48 @@ rule_text rule =
     else if rule == NAME_NOT_FOUND then codes "name not found"
     else if rule == NOT_SUPPORTED then codes "not supported here"
     else if rule == NO_SUCH_BLOCK then codes "no such block"
-    else if rule == TABLE_TOO_LONG then codes "table too long"
+    else []
+
+-- the texts of the rules of instances
+abbrev pub instance_rule : ℕ → List ℕ
+instance_rule rule =
+    if rule == TOO_MANY_OR_TOO_DEEP then codes "too many or too deep"
+    else if rule == CONTAINS_ITSELF then codes "block contains itself"
+    else if rule == NOTHING_TO_MODIFY then codes "nothing to modify"
+    else if rule == MODIFIED_TWICE then codes "modified twice"
+    else if rule == FINAL_MODIFIED then codes "modifies a final value"
+    else if rule == WRONG_SHAPE then codes "wrong shape"
+    else if rule == WRONG_TYPE then codes "wrong type"
+    else if rule == UNKNOWN_NAME then codes "unknown name or function"
+    else if rule == SIZE_OUT_OF_RANGE then codes "size out of range"
+    else if rule == PARAMETERS_TOO_DEEP then codes "parameters depend too deeply"
+    else if rule == NO_VALUE then codes "no value"
+    else if rule == PARAMETER_WITHOUT_VALUE then codes "parameter without a value"
+    else if rule == PARAMETER_OUT_OF_CONDITION then codes "parameter out of its condition"
+    else if rule == UNIT_TOO_LONG then codes "unit too long"
+    else []
+
+-- the texts of the rules of statements, wires, elements and loops
+abbrev pub connection_rule : ℕ → List ℕ
+connection_rule rule =
+    if rule == TOO_MANY_TURNS then codes "too many turns"
+    else if rule == NO_SUCH_CONNECTOR then codes "no such connector"
+    else if rule == WRONG_SUBSCRIPT then codes "wrong subscript"
+    else if rule == SHAPES_DIFFER then codes "shapes differ"
+    else if rule == TWO_SOURCES_OR_SINKS then codes "two sources or two sinks joined"
+    else if rule == TYPES_DIFFER then codes "types differ"
+    else if rule == MORE_THAN_ONE_SOURCE then codes "more than one source"
+    else if rule == NO_SOURCE then codes "no source"
+    else if rule == TOO_MANY_WIRES then codes "too many wires"
+    else if rule == UNITS_DIFFER then codes "units differ"
+    else if rule == CXF_TOO_LONG then codes "CXF text too long"
+    else if rule == LOOP_WITHOUT_DELAY then codes "loop without a delay"
+    else []
+
+-- the texts of the rules of tables
+abbrev pub table_rule : ℕ → List ℕ
+table_rule rule =
+    if rule == TABLE_TOO_LONG then codes "table too long"
     else if rule == WRONG_FIELD_COUNT then codes "wrong number of fields"
     else if rule == WRONG_HEADER then codes "wrong header"
     else if rule == NOT_A_TIME then codes "not a time"
@@ -74,6 +123,14 @@ rule_text rule =
     else if rule == NOT_A_VALUE then codes "not a value of its type"
     else if rule == TOO_MANY_TICKS then codes "too many ticks"
     else []
+
+-- the text of each rule
+abbrev pub rule_text : ℕ → List ℕ
+rule_text rule =
+    if nat_lt rule TOO_MANY_OR_TOO_DEEP then text_rule rule
+    else if nat_lt rule TOO_MANY_TURNS then instance_rule rule
+    else if nat_lt rule TABLE_TOO_LONG then connection_rule rule
+    else table_rule rule
 
 -- NAME:LINE:COLUMN
 abbrev pub position_text : List ℕ → ℕ → ℕ → List ℕ

@@ -1,7 +1,7 @@
 // The words of the command line.
 ghost use Rattle.std.specs.Prelude.{◌≡◌, ◌+◌, ◌-◌, ◌*◌, ◌^◌, ◌<◌, map, string_bytes, IfSome};
 ghost use Rattle.std.specs.Option.{option_map};
-ghost use Rattle.cdl_job.specs.Outcome.{HasFewModels};
+ghost use Rattle.cdl_job.specs.Outcome.{HasFewModels, HasSomeModels};
 ghost use Rattle.cdl_job.specs.Job.{is_class_name, is_file_name, are_models, sample_size, task_of, check_of, run_of, cxf_of, check_cxf_of, run_cxf_of, sample_of, task_of_job};
 
 use cdl_source::{MOST_MODELS, is_digit, is_identifier};
@@ -44,6 +44,7 @@ pub enum Job<'a> {
 pub fn words(words: &[String]) -> Option<Job<'_>>
     ensures task { option_map task_of_job result ≡ task_of (map string_bytes words.now) }
     ensures few { IfSome result HasFewModels }
+    ensures some { IfSome result HasSomeModels }
 {
     match words {
         [] => None,
@@ -62,6 +63,7 @@ pub fn words(words: &[String]) -> Option<Job<'_>>
 fn check_job(words: &[String]) -> Option<Job<'_>>
     ensures task { option_map task_of_job result ≡ check_of (map string_bytes words.now) }
     ensures few { IfSome result HasFewModels }
+    ensures some { IfSome result HasSomeModels }
 {
     match words {
         [class, models @ ..] if is_class(class) && are_files(models) => Some(Job::Check {
@@ -75,6 +77,7 @@ fn check_job(words: &[String]) -> Option<Job<'_>>
 fn run_job(words: &[String]) -> Option<Job<'_>>
     ensures task { option_map task_of_job result ≡ run_of (map string_bytes words.now) }
     ensures few { IfSome result HasFewModels }
+    ensures some { IfSome result HasSomeModels }
 {
     match words {
         [class, table, models @ ..] if is_class(class) && is_file(table) && are_files(models) => {
@@ -91,6 +94,7 @@ fn run_job(words: &[String]) -> Option<Job<'_>>
 fn cxf_job(words: &[String]) -> Option<Job<'_>>
     ensures task { option_map task_of_job result ≡ cxf_of (map string_bytes words.now) }
     ensures few { IfSome result HasFewModels }
+    ensures some { IfSome result HasSomeModels }
 {
     match words {
         [class, models @ ..] if is_class(class) && are_files(models) => Some(Job::Cxf {
@@ -104,6 +108,7 @@ fn cxf_job(words: &[String]) -> Option<Job<'_>>
 fn check_cxf_job(words: &[String]) -> Option<Job<'_>>
     ensures task { option_map task_of_job result ≡ check_cxf_of (map string_bytes words.now) }
     ensures few { IfSome result HasFewModels }
+    ensures some { IfSome result HasSomeModels }
 {
     match words {
         [doc] if is_file(doc) => Some(Job::CheckCxf { doc: doc.as_str() }),
@@ -114,6 +119,7 @@ fn check_cxf_job(words: &[String]) -> Option<Job<'_>>
 fn run_cxf_job(words: &[String]) -> Option<Job<'_>>
     ensures task { option_map task_of_job result ≡ run_cxf_of (map string_bytes words.now) }
     ensures few { IfSome result HasFewModels }
+    ensures some { IfSome result HasSomeModels }
 {
     match words {
         [table, doc] if is_file(table) && is_file(doc) => Some(Job::RunCxf {
@@ -127,6 +133,7 @@ fn run_cxf_job(words: &[String]) -> Option<Job<'_>>
 fn sample_job(words: &[String]) -> Option<Job<'_>>
     ensures task { option_map task_of_job result ≡ sample_of (map string_bytes words.now) }
     ensures few { IfSome result HasFewModels }
+    ensures some { IfSome result HasSomeModels }
 {
     match words {
         [n] => number(n.as_bytes()).map(|n| Job::Sample { n }),

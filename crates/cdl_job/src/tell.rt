@@ -122,8 +122,9 @@ fn push_spot(
     }
 }
 
-fn rule_text(rule: u32) -> &'static [u8]
-    ensures { result.now ≡ spec.rule_text rule }
+// The texts of the rules of texts and classes.
+fn text_rule(rule: u32) -> &'static [u8]
+    ensures { result.now ≡ spec.text_rule rule }
 {
     match rule {
         rules::MODEL_TOO_LONG => b"model file too long",
@@ -140,6 +141,59 @@ fn rule_text(rule: u32) -> &'static [u8]
         rules::NAME_NOT_FOUND => b"name not found",
         rules::NOT_SUPPORTED => b"not supported here",
         rules::NO_SUCH_BLOCK => b"no such block",
+        _ => b"",
+    }
+}
+
+// The texts of the rules of instances.
+fn instance_rule(rule: u32) -> &'static [u8]
+    ensures { result.now ≡ spec.instance_rule rule }
+{
+    match rule {
+        rules::TOO_MANY_OR_TOO_DEEP => b"too many or too deep",
+        rules::CONTAINS_ITSELF => b"block contains itself",
+        rules::NOTHING_TO_MODIFY => b"nothing to modify",
+        rules::MODIFIED_TWICE => b"modified twice",
+        rules::FINAL_MODIFIED => b"modifies a final value",
+        rules::WRONG_SHAPE => b"wrong shape",
+        rules::WRONG_TYPE => b"wrong type",
+        rules::UNKNOWN_NAME => b"unknown name or function",
+        rules::SIZE_OUT_OF_RANGE => b"size out of range",
+        rules::PARAMETERS_TOO_DEEP => b"parameters depend too deeply",
+        rules::NO_VALUE => b"no value",
+        rules::PARAMETER_WITHOUT_VALUE => b"parameter without a value",
+        rules::PARAMETER_OUT_OF_CONDITION => b"parameter out of its condition",
+        rules::UNIT_TOO_LONG => b"unit too long",
+        _ => b"",
+    }
+}
+
+// The texts of the rules of statements, wires, elements and loops.
+fn connection_rule(rule: u32) -> &'static [u8]
+    ensures { result.now ≡ spec.connection_rule rule }
+{
+    match rule {
+        rules::TOO_MANY_TURNS => b"too many turns",
+        rules::NO_SUCH_CONNECTOR => b"no such connector",
+        rules::WRONG_SUBSCRIPT => b"wrong subscript",
+        rules::SHAPES_DIFFER => b"shapes differ",
+        rules::TWO_SOURCES_OR_SINKS => b"two sources or two sinks joined",
+        rules::TYPES_DIFFER => b"types differ",
+        rules::MORE_THAN_ONE_SOURCE => b"more than one source",
+        rules::NO_SOURCE => b"no source",
+        rules::TOO_MANY_WIRES => b"too many wires",
+        rules::UNITS_DIFFER => b"units differ",
+        rules::CXF_TOO_LONG => b"CXF text too long",
+        rules::LOOP_WITHOUT_DELAY => b"loop without a delay",
+        _ => b"",
+    }
+}
+
+// The texts of the rules of tables.
+fn table_rule(rule: u32) -> &'static [u8]
+    ensures { result.now ≡ spec.table_rule rule }
+{
+    match rule {
         rules::TABLE_TOO_LONG => b"table too long",
         rules::WRONG_FIELD_COUNT => b"wrong number of fields",
         rules::WRONG_HEADER => b"wrong header",
@@ -149,6 +203,21 @@ fn rule_text(rule: u32) -> &'static [u8]
         rules::TOO_MANY_TICKS => b"too many ticks",
         _ => b"",
     }
+}
+
+fn rule_text(rule: u32) -> &'static [u8]
+    ensures { result.now ≡ spec.rule_text rule }
+{
+    if rule < rules::TOO_MANY_OR_TOO_DEEP {
+        return text_rule(rule);
+    }
+    if rule < rules::TOO_MANY_TURNS {
+        return instance_rule(rule);
+    }
+    if rule < rules::TABLE_TOO_LONG {
+        return connection_rule(rule);
+    }
+    table_rule(rule)
 }
 
 // The text of a refusal.

@@ -20,3 +20,8 @@ returns-in-ReadFault-clause-told g c =
 pub returns-in-WriteFault-clause-told : goal.returns-in-WriteFault-clause-told
 returns-in-WriteFault-clause-told g c =
     told_as (task_of_job c.args.job) c.args.line c.args.column c.args.outcome WriteFault _ _ _ _ _ c.in-WriteFault.is refl c.tell-in-WriteFault.ensures.told
+
+pub returns-in-Refused-clause-told : goal.returns-in-Refused-clause-told
+returns-in-Refused-clause-told g c =
+    told_made (task_of_job c.args.job) c.args.line c.args.column c.args.outcome _ c.refusal-made.result _ _ _ (rw c.in-Refused.is tt) (rw c.in-Refused.is c.refusal-made.ensures)
+    c.tell_made.ensures.told
