@@ -31,11 +31,7 @@ fn wired(alloc: Global, net: Net) -> Result<CheckedNet, CheckFault>
 {
     match net.check(alloc) {
         Ok(checked) => Ok(checked),
-        Err(refusal) => Err(or_no_memory(wiring_fault(
-            alloc,
-            &refusal.net,
-            refusal.fault,
-        ))),
+        Err(refusal) => Err(or_no_memory(wiring_fault(alloc, &refusal.net, refusal.fault))),
     }
 }
 
@@ -48,11 +44,7 @@ fn ordered(alloc: Global, net: CheckedNet) -> Result<Plan, CheckFault>
     let _net = net.net();
     match order(alloc, net) {
         Ok(plan) => Ok(plan),
-        Err(refusal) => Err(or_no_memory(loop_fault(
-            alloc,
-            refusal.net.net(),
-            refusal.fault,
-        ))),
+        Err(refusal) => Err(or_no_memory(loop_fault(alloc, refusal.net.net(), refusal.fault))),
     }
 }
 

@@ -7,12 +7,12 @@ ghost use Rattle.cdl_job.specs.Job.{RunOf};
 ghost use Rattle.cdl_command.specs.Top.{Works};
 ghost use Rattle.cdl_job.specs.declared.outcome.Outcome.{Outcome};
 
-use cdl_job::Outcome;
 use crate::root::{flat_of, root_of};
 use crate::stop::{Ended, plain_end, stopped};
 use crate::table::read_table;
 use crate::texts::{Models, read_models};
 use crate::trace::write_trace;
+use cdl_job::Outcome;
 use cdl_source::{Files, MOST_MODELS, Sink};
 use std::alloc::Global;
 

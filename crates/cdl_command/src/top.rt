@@ -8,11 +8,9 @@ ghost use Rattle.cdl_job.specs.Outcome.{files_of, HasFewModels};
 ghost use Rattle.cdl_command.specs.Answer.{DueOf, Result};
 ghost use Rattle.cdl_command.specs.Top.{Works, OutAfterWords, ErrAfterWords, BegunFor};
 
-use cdl_job::{Job, words as job_of};
-use cdl_job::Outcome;
-use cdl_job::{report, usage};
 use crate::run::run;
 use crate::stop::{Ended, refused_root, stopped};
+use cdl_job::{Job, Outcome, report, usage, words as job_of};
 use cdl_source::rules::NOT_BUILT;
 use cdl_source::{Files, Sink};
 use std::alloc::Global;

@@ -99,7 +99,7 @@ pub model_direct : (u : Unfolding) → DirectOnly (network u)
 model_direct u = record {
   same = λ p h now xs ys m e s. direct_meaning (content_at u.instances p) h now xs ys
       (λ d. same_all (λ (x : ElementName). is_direct (content_at u.instances x.path)) (inputs_of (network u) p) xs ys
-          (λ x i. ap (λ q. is_direct (content_at u.instances q)) (input_path u p x i) ∙ d) s);
+      (λ x i. ap (λ q. is_direct (content_at u.instances q)) (input_path u p x i) ∙ d) s);
 }
 
 -- ---- the net

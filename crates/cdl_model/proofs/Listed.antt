@@ -121,13 +121,12 @@ port_few n false = omega arith
 joined_once : (p : List Step) (gs hs : List Group) (ps qs : List Point) → Apart (group_names (gs ++ hs)) → PortsOnce p gs ps → PortsOnce p hs qs → PortsOnce p (gs ++ hs) (ps ++ qs)
 joined_once p gs hs ps qs a x y =
     let split : group_names (gs ++ hs) ≡ group_names gs ++ group_names hs = map-append (λ (g : Group). g.name) gs hs in
-    let apart : Apart (group_names gs ++ group_names hs) = subst (λ l. Apart l) split a in
-    (
+    let apart : Apart (group_names gs ++ group_names hs) = subst (λ l. Apart l) split a in (
       subst (λ l. Apart l) (sym (map-append (named_point p) ps qs)) (apart_append (map (named_point p) ps) (map (named_point p) qs) x.0 y.0 (λ z i j.
-        let u = of_map (named_point p) z ps i in
-        let v = of_map (named_point p) z qs j in
-        let same : v.0.name ≡ u.0.name = ap (λ (n : ElementName). n.name) (sym v.2 ∙ u.2) in
-        apart_across (group_names gs) (group_names hs) u.0.name apart (x.1 u.0 u.1) (subst (λ n. In n (group_names hs)) same (y.1 v.0 v.1)))),
+          let u = of_map (named_point p) z ps i in
+          let v = of_map (named_point p) z qs j in
+          let same : v.0.name ≡ u.0.name = ap (λ (n : ElementName). n.name) (sym v.2 ∙ u.2) in
+          apart_across (group_names gs) (group_names hs) u.0.name apart (x.1 u.0 u.1) (subst (λ n. In n (group_names hs)) same (y.1 v.0 v.1)))),
       λ z i. subst (λ l. In z.name l) (sym split) (elim (in_either z ps qs i) as (λ _. In z.name (group_names gs ++ group_names hs)) [
         | inl h ↦ in_left z.name (group_names gs) (group_names hs) (x.1 z h)
         | inr h ↦ in_right z.name (group_names gs) (group_names hs) (y.1 z h)
@@ -205,9 +204,9 @@ module _ (w : Model) (a : NamesApart w) (p : List Step) (c : ClassId) where
       → Apart (names (map (owned_by q) ps)) → Apart (names (elements_in xs)) → Apart (names (map (owned_by q) ps ++ elements_in xs))
   more_once k t q ps xs s f g x y = subst (λ l. Apart l) (sym (map-append name_of (map (owned_by q) ps) (elements_in xs)))
       (apart_append (names (map (owned_by q) ps)) (names (elements_in xs)) x y (λ z i j.
-        let h = in_owned z q ps i in
-        let b = in_elements z xs j in
-        not_later k t xs z.path (Some z.name) s f (subst (λ r. Marks t r (Some z.name)) (sym h.0) (g z.name h.1)) b))
+      let h = in_owned z q ps i in
+      let b = in_elements z xs j in
+      not_later k t xs z.path (Some z.name) s f (subst (λ r. Marks t r (Some z.name)) (sym h.0) (g z.name h.1)) b))
 
   elements_once : (xs : Things) → Sorted xs → AllStand w p c xs → Apart (names (elements_in xs))
   elements_once [] s f = tt
@@ -235,7 +234,7 @@ pub grouped_once : (ss : List Seen) (os : List Owned) → Apart (paths ss) → A
 grouped_once [] os a b = tt
 grouped_once (s ∷ ss) os a b = subst (λ l. Apart l) (sym (map-append name_of (own os s.path) (by_instance ss os)))
     (apart_append (names (own os s.path)) (names (by_instance ss os)) (apart_filter (λ (x : Owned). same_steps x.path s.path) name_of os b) (grouped_once ss os a.1 b)
-      (λ y i j. a.0 (subst (λ q. In q (paths ss)) (own_path os s.path y i) (grouped_path ss os y j))))
+    (λ y i j. a.0 (subst (λ q. In q (paths ss)) (own_path os s.path y i) (grouped_path ss os y j))))
 
 -- ---- what an instance is a part of
 

@@ -111,7 +111,7 @@ same_records s (t ∷ ts) ps qs (v ∷ vs) (w ∷ ws) c h f =
     let a = same_fault s.network ps qs t v w c h f.0 in
     let b = same_records s ts (seen t v ∷ ps) (seen t w ∷ qs) vs ws c (refl, f.0, h) f.1 in
     let r : record_of s t v ≡ record_of s t w =
-        ap (record_text (output_columns s) t.time) (same_words v w (root_outputs s.network) (λ x m. f.0 x (in_filter (is_root_output s.network) x s.network.elements m))) in
+    ap (record_text (output_columns s) t.time) (same_words v w (root_outputs s.network) (λ x m. f.0 x (in_filter (is_root_output s.network) x s.network.elements m))) in
     ap (λ o. unless o (record_of s t v ++ records_of s (seen t v ∷ ps) ts vs)) a
     ∙ ap (λ l. unless (first_fault s.network qs t w) (l ++ records_of s (seen t v ∷ ps) ts vs)) r
     ∙ ap (λ l. unless (first_fault s.network qs t w) (record_of s t w ++ l)) b

@@ -132,8 +132,8 @@ tick_gives r ts t s v =
     let l = last_of_run (network_of r.net) ts t s.run.values s.run.runs in
     let shown : AreShown r.net (seen t l.here ∷ after [] ts l.before) r.words = subst (λ p. AreShown r.net p r.words) l.over s.run.shown in
     let same = same_words l.here (word r.words) (root_outputs (network_of r.net)) (λ x i.
-        let b = output_below r.net x i in
-        shown_word ((network_of r.net).value_type x) l.here r.words x (shown x b) (v x b)) in
+    let b = output_below r.net x i in
+    shown_word ((network_of r.net).value_type x) l.here r.words x (shown x b) (v x b)) in
     record {
       before = l.before;
       here = l.here;

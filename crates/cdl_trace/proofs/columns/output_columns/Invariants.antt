@@ -1,6 +1,5 @@
 use Rattle.std.proofs.Common.{◌≡◌, filter, map}
 use Rattle.cdl_network.specs.Lists.{numbers}
-
 use Rattle.cdl_connect.specs.Nets.{network_of}
 use Rattle.cdl_trace.specs.Columns.{column_of, is_root_output, labelled}
 use Rattle.cdl_trace.proofs.columns.output_columns.Given as goal
