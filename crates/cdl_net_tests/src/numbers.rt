@@ -121,7 +121,8 @@ fn are_few(net: &Net) -> bool
 
 /// The net, where its numbers are good.
 pub fn indexed(net: Net) -> Option<Net>
-    ensures { IfSome result (λ n. IsIndexed n) }
+    ensures same { IfSome result (λ n. n ≡ net) }
+    ensures good { IfSome result (λ n. IsIndexed n) }
 {
     if are_few(&net)
         && are_fine_instances(&net)
