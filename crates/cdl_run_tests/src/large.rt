@@ -20,6 +20,7 @@ fn a_chain_of_the_most_blocks_declared_backward(rt: HostRuntime) -> Result<(), F
     let net = chain(rt.alloc())?;
     let mut trial = Trial::start(rt.alloc(), net.as_str())?;
     assert_eq!(rt; trial.runner().words().len(), 40_000);
+    assert_eq!(rt; trial.blocks(), 19_999);
     for now in 0..3 {
         let given = trial.tick(now, &[now % 2]).ok_or("no tick of the net")?;
         assert!(rt; given.is_ok());

@@ -1,4 +1,5 @@
 use crate::Trial;
+use crate::runs::gives;
 use crate::values::numbers;
 use cdl_run::ResumeFault;
 use std::alloc::Global;
@@ -21,6 +22,23 @@ true since the last time: c2 iB oB Logical.TrueDelay/5000/0 0:0-2 0:3-1 = 5 1 0 
 true since after the last time: c2 iB oB Logical.TrueDelay/5000/0 0:0-2 0:3-1 = 4 1 0 1 0 5 0 = state 1
 true since no tick before any: c2 iB oB Logical.TrueDelay/5000/0 0:0-2 0:3-1 = -1 0 0 0 0 -1 1 = taken";
 
+// A line for each list of sound words that no run gave: its name, the net, the last time and the words, and the ticks from there on,
+// as in `runs`.
+static ON: &str = "\
+two states: c2 iB oB Logical.Pre/0 Logical.Pre/0 0:0-2 0:3-4 0:5-1 = 5 9 9 9 9 9 9 1 1 = 6 0 > 1; 7 0 > 1; 8 0 > 0; words 0 0 0 0 0 0 0 0
+the second counter has no room: c4 iB iB oI oI Integers.OnCounter/0 Integers.OnCounter/0 0:0-4 0:1-5 0:0-7 0:1-8 0:6-2 0:9-3 = 5 0 0 0 0 0 0 0 0 0 0 7 0 0 2147483647 0 0 = 6 1 0 > fault 2; 7 0 0 > fault 2
+no counter has room: c4 iB iB oI oI Integers.OnCounter/0 Integers.OnCounter/0 0:0-4 0:1-5 0:0-7 0:1-8 0:6-2 0:9-3 = 5 0 0 0 0 0 0 0 0 0 0 2147483647 0 0 2147483647 0 0 = 6 1 0 > fault 1
+no counter has room, and none counts: c4 iB iB oI oI Integers.OnCounter/0 Integers.OnCounter/0 0:0-4 0:1-5 0:0-7 0:1-8 0:6-2 0:9-3 = 5 0 0 0 0 0 0 0 0 0 0 2147483647 1 0 2147483647 1 0 = 6 1 0 > 2147483647 2147483647; 7 0 0 > 2147483647 2147483647; 8 1 1 > 0 0
+a counter without room behind a division: c3 iB iR oI Reals.Divide Integers.OnCounter/0 0:1-3 0:1-4 0:0-6 0:0-7 0:8-2 = 5 0 0 0 0 0 0 0 0 0 2147483647 0 1 = 6 1 0 > fault 1";
+
+// The name, the net, the last time with the words, and what is behind them.
+fn columns(row: &str) -> Option<(&str, &str, &str, &str)> {
+    let (name, rest) = row.split_once(": ")?;
+    let (net, rest) = rest.split_once(" = ")?;
+    let (words, end) = rest.split_once(" =")?;
+    Some((name, net, words, end))
+}
+
 // What is answered to these words, of which the first is the last time.
 fn answer(alloc: Global, net: &str, words: &[i64]) -> Result<String, Fail> {
     let (last, words) = words.split_first().ok_or("no time")?;
@@ -36,15 +54,32 @@ fn answer(alloc: Global, net: &str, words: &[i64]) -> Result<String, Fail> {
 }
 
 #[test]
-fn words_are_refused_by_their_number_and_the_first_unsound_state(rt: HostRuntime) -> Result<(), Fail> {
+fn words_are_refused_by_their_number_and_the_first_unsound_state(
+    rt: HostRuntime,
+) -> Result<(), Fail> {
     let alloc = rt.alloc();
     for row in ROWS.lines() {
-        let (name, rest) = row.split_once(": ").ok_or("no name")?;
-        let (net, rest) = rest.split_once(" = ").ok_or("no words")?;
-        let (words, end) = rest.split_once(" = ").ok_or("no end")?;
+        let (name, net, words, end) = columns(row).ok_or("columns")?;
         let words = numbers(alloc, words, ' ')?;
         let found = answer(alloc, net, words.as_slice())?;
-        assert_eq!(rt; found.as_str(), end, "{name}");
+        assert_eq!(rt; found.as_str(), end.trim(), "{name}");
+    }
+    Ok(())
+}
+
+#[test]
+fn a_run_goes_on_from_sound_words_that_no_run_gave(rt: HostRuntime) -> Result<(), Fail> {
+    let alloc = rt.alloc();
+    for row in ON.lines() {
+        let (name, net, words, cells) = columns(row).ok_or("columns")?;
+        let words = numbers(alloc, words, ' ')?;
+        let (last, words) = words.as_slice().split_first().ok_or("no time")?;
+        let Ok(mut trial) = Trial::resume(alloc, net, *last, words)? else {
+            return Err("sound words are refused".into());
+        };
+        for cell in cells.split(';') {
+            assert!(rt; gives(alloc, &mut trial, cell)?, "{name}");
+        }
     }
     Ok(())
 }

@@ -1,14 +1,14 @@
-// The inputs and outputs of a net's root.
+// The inputs and outputs of a net's root, and its blocks.
 ghost use Rattle.std.specs.Prelude.{◌≡◌, ◌<◌, ◌++◌, ◌∷◌, [], IfOk, IsTrue, OnOk, cond, length, map, not, true};
 ghost use Rattle.cdl_network.specs.Dependence.{is_root_input, root_inputs};
 ghost use Rattle.cdl_network.specs.Lists.{has_some};
 ghost use Rattle.cdl_connect.specs.Faults.{IsChecked};
-ghost use Rattle.cdl_connect.specs.Nets.{network_of};
+ghost use Rattle.cdl_connect.specs.Nets.{is_block, network_of};
 ghost use Rattle.cdl_pass.specs.Tick.{RowOf};
-ghost use Rattle.cdl_run.specs.Words.{is_root_output, root_outputs};
+ghost use Rattle.cdl_run.specs.Words.{elementary_below, is_root_output, root_outputs};
 ghost use Rattle.cdl_values.specs.History.{IsValue};
 
-use cdl_connect::Net;
+use cdl_connect::{Body, Net};
 use cdl_source::OutOfMemory;
 use cdl_values::ValueType;
 use std::alloc::Global;
@@ -67,6 +67,35 @@ pub fn outputs_in(alloc: Global, net: &Net) -> Result<Vec<u32>, OutOfMemory>
         add_output(&mut outputs, net, x)?;
     }
     Ok(outputs)
+}
+
+fn is_block(body: &Body) -> bool
+    ensures { result ≡ is_block body.now }
+{
+    matches!(body, Body::Elementary { .. })
+}
+
+fn add_block(blocks: &mut Vec<u32>, net: &Net, i: usize) -> Result<(), OutOfMemory>
+    requires checked { IsChecked net.now }
+    requires inside { i < length net.now.instances }
+    ensures { OnOk result (blocks.new.items ≡ cond ((network_of net.now).elementary i) (blocks.old.items ++ i ∷ []) blocks.old.items) }
+{
+    if is_block(&net.instances.items()[i].body) {
+        blocks.push(i as u32)?;
+    }
+    Ok(())
+}
+
+/// The elementary instances.
+pub fn blocks_in(alloc: Global, net: &Net) -> Result<Vec<u32>, OutOfMemory>
+    requires { IsChecked net.now }
+    ensures { IfOk result (λ v. v.items ≡ elementary_below net.now (length net.now.instances)) }
+{
+    let mut blocks = Vec::new(alloc);
+    for i in 0..net.instances.items().len() {
+        add_block(&mut blocks, net, i)?;
+    }
+    Ok(blocks)
 }
 
 fn is_value(value_type: ValueType, w: i64) -> bool

@@ -3,12 +3,13 @@ ghost use Rattle.std.specs.Prelude.{◌≡◌, ◌<◌, IfOk, map};
 ghost use Rattle.cdl_network.specs.Dependence.{root_inputs};
 ghost use Rattle.cdl_connect.specs.Nets.{network_of};
 ghost use Rattle.cdl_connect.specs.WellFormed.{AreOfKinds, ArePlain};
+ghost use Rattle.cdl_run.specs.Words.{elementary_count};
 ghost use Rattle.cdl_run_tests.specs.Framed.{IsFramed};
 ghost use Rattle.cdl_run_tests.specs.Kept.{AreKept};
 
 use crate::builder::net_of;
 use crate::kinds::{are_of_kinds, are_plain};
-use crate::roots::{is_row, outputs_in, rows_in};
+use crate::roots::{blocks_in, is_row, outputs_in, rows_in};
 use cdl_connect::Net;
 use cdl_kinds::Steps;
 use cdl_net_tests::indexed;
@@ -21,11 +22,12 @@ use std::marker::{Brand, Model};
 use std::sync::ledger::{Blank, Ledger};
 use std::test::Fail;
 
-// The types of the root's inputs, and the numbers of its outputs.
+// The types of the root's inputs, the numbers of its outputs, and those of the elementary instances.
 #[derive(Drop)]
 struct Frame {
     rows: Vec<ValueType>,
     outputs: Vec<u32>,
+    blocks: Vec<u32>,
 }
 
 /// A runner, with what is to be known of its root.
@@ -43,7 +45,7 @@ impl Model for Trial {
 
     ghost view = { λ t. t.runner };
 
-    ghost invariant = { λ t. IsFramed t.runner.net t.frame.rows.items t.frame.outputs.items };
+    ghost invariant = { λ t. IsFramed t.runner.net t.frame.rows.items t.frame.outputs.items t.frame.blocks.items };
 }
 
 // The plan of a net whose numbers are good.
@@ -51,7 +53,7 @@ fn plan_of(alloc: Global, net: Net) -> Result<(Plan, Frame), Fail>
     requires kept { AreKept net.instances }
     ensures kinds { IfOk result (λ r. AreOfKinds r.0.net) }
     ensures plain { IfOk result (λ r. ArePlain r.0.net) }
-    ensures framed { IfOk result (λ r. IsFramed r.0.net r.1.rows.items r.1.outputs.items) }
+    ensures framed { IfOk result (λ r. IsFramed r.0.net r.1.rows.items r.1.outputs.items r.1.blocks.items) }
 {
     let net = indexed(net).ok_or("numbers out of range")?;
     if !are_of_kinds(&net) || !are_plain(&net) {
@@ -66,7 +68,13 @@ fn plan_of(alloc: Global, net: Net) -> Result<(Plan, Frame), Fail>
     let net = plan.net().net();
     let rows = rows_in(alloc, net)?;
     let outputs = outputs_in(alloc, net)?;
-    Ok((plan, Frame { rows, outputs }))
+    let blocks = blocks_in(alloc, net)?;
+    let frame = Frame {
+        rows,
+        outputs,
+        blocks,
+    };
+    Ok((plan, frame))
 }
 
 // Takes a tick, counted by a ledger of its own. None: the time isn't later, or the row isn't one of the net.
@@ -116,6 +124,13 @@ impl Trial {
     pub fn tick(&mut self, now: i64, row: &[i64]) -> Option<Result<(), RangeFault>> {
         let rows = self.frame.rows.as_slice();
         one_tick::<Brand>(Blank::new(1), &mut self.runner, rows, now, row)
+    }
+
+    /// How many elementary instances there are: as many steps as an Ok tick takes.
+    pub fn blocks(&self) -> usize
+        ensures { result ≡ elementary_count self.now.net }
+    {
+        self.frame.blocks.len()
     }
 
     /// Whether these are the words of the root's outputs.
