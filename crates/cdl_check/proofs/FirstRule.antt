@@ -1,10 +1,10 @@
 -- The first broken rule of a network: it is one, it has the texts of its place, and it is the same under other names.
-use Rattle.std.proofs.Common.{ℕ, ◌<◌, ◌≡◌, refl, sym, ap, ◌∙◌, subst, inl, inr, List, [], ◌∷◌, Option, Some, None, slice_get}
+use Rattle.std.proofs.Common.{ℕ, ◌<◌, ◌≡◌, refl, sym, ap, ◌∙◌, inl, inr, List, [], ◌∷◌, length, Option, Some, None, slice_get}
 use Rattle.std.proofs.lemmas.Bool.{cases_order}
 use Rattle.cdl_network.specs.Closed.{Closed}
 use Rattle.cdl_network.specs.Dependence.{FirstLoop, NoLoop}
 use Rattle.cdl_network.specs.FirstBroken.{Accepted, AtElement, AtInstance, AtWire, FirstBroken, Spot}
-use Rattle.cdl_network.specs.Lists.{In, first_of, found}
+use Rattle.cdl_network.specs.Lists.{In, first_of, found, numbers}
 use Rattle.cdl_network.specs.Network.{Network}
 use Rattle.cdl_network.specs.Renamed.{Renamed, rename_spot}
 use Rattle.cdl_network.specs.Rules.{element_fault, first_element, first_wire, wire_fault}
@@ -15,7 +15,7 @@ use Rattle.cdl_connect.specs.declared.net.RawWire.{RawWire}
 use Rattle.cdl_connect.specs.Faults.{IsFirstElement, IsFirstWire, IsUnbroken}
 use Rattle.cdl_connect.specs.Nets.{network_of, wire_in}
 use Rattle.cdl_connect.specs.WellFormed.{path_of}
-use Rattle.cdl_connect.proofs.Networks.{element_first, no_wire, none_first, wire_first}
+use Rattle.cdl_connect.proofs.Networks.{below_all, element_first, no_wire, none_first, wire_first}
 use Rattle.cdl_source.specs.declared.rules.TheConstants.{LOOP_WITHOUT_DELAY}
 use Rattle.cdl_check.specs.declared.fault.NetSpot.{NetSpot}
 use Rattle.cdl_check.specs.declared.fault.NetSpot.TheVariants.{Wire, Path}
@@ -29,8 +29,13 @@ some_none x o e z = let h : Some x ≡ None = sym e ∙ z in absurd (cc)
 
 -- ---- a network breaks one rule first
 
-same_place : {A : Type 0} (o : Option (A × ℕ)) (x y : A) (r s : ℕ) → o ≡ Some (x, r) → o ≡ Some (y, s) → (x, r) ≡ (y, s)
-same_place o x y r s e f = some_same (x, r) (y, s) (sym e ∙ f)
+pair_same : {A : Type 0} (p q : A × ℕ) → Some p ≡ Some q → p ≡ q
+pair_same p q e = cc
+
+same_place : {A : Type 0} (o : Option (A × ℕ)) (x y : A) (r s : ℕ) → o ≡ Some (x, r) → o ≡ Some (y, s) → (x ≡ y) × (r ≡ s)
+same_place {A} o x y r s e f =
+    let k = pair_same {A = A} (x, r) (y, s) (sym e ∙ f) in
+    (ap (λ (z : A × ℕ). z.0) k, ap (λ (z : A × ℕ). z.1) k)
 
 same_loop : {I E : Type 0} (n : Network I E) (i j : I) → FirstLoop n i → FirstLoop n j → i ≡ j
 same_loop n i j f g = elim (cases_order f.0 g.0) as (λ _. i ≡ j) [
@@ -40,11 +45,11 @@ same_loop n i j f g = elim (cases_order f.0 g.0) as (λ _. i ≡ j) [
 ]
 
 same_spot : {I E : Type 0} (n : Network I E) (p q : Spot I E) → FirstBroken n p → FirstBroken n q → p ≡ q
-same_spot n (AtWire w r) (AtWire v s) f g = ap (λ z. AtWire z.0 z.1) (same_place (first_wire n) w v r s f g)
+same_spot n (AtWire w r) (AtWire v s) f g = let k = same_place (first_wire n) w v r s f g in ap (λ z. AtWire z r) k.0 ∙ ap (AtWire v) k.1
 same_spot n (AtWire w r) (AtElement x s) f g = absurd (some_none (w, r) (first_wire n) f g.0)
 same_spot n (AtWire w r) (AtInstance i) f g = absurd (some_none (w, r) (first_wire n) f g.0)
 same_spot n (AtElement x r) (AtWire w s) f g = absurd (some_none (w, s) (first_wire n) g f.0)
-same_spot n (AtElement x r) (AtElement y s) f g = ap (λ z. AtElement z.0 z.1) (same_place (first_element n) x y r s f.1 g.1)
+same_spot n (AtElement x r) (AtElement y s) f g = let k = same_place (first_element n) x y r s f.1 g.1 in ap (λ z. AtElement z r) k.0 ∙ ap (AtElement y) k.1
 same_spot n (AtElement x r) (AtInstance i) f g = absurd (some_none (x, r) (first_element n) f.1 g.1)
 same_spot n (AtInstance i) (AtWire w s) f g = absurd (some_none (w, s) (first_wire n) g f.0)
 same_spot n (AtInstance i) (AtElement x s) f g = absurd (some_none (x, s) (first_element n) g.1 f.1)
@@ -125,6 +130,9 @@ loop_refused n i path u f e =
       rule_is = refl;
       place_is = ap Path e;
     }
+
+pub loop_inside : (n : Net) (i : ℕ) → FirstLoop (network_of n) i → i < length n.instances
+loop_inside n i f = below_all (length n.instances) i (in_slice (numbers 0 (length n.instances)) f.0 i f.1)
 
 -- what breaks no rule is accepted
 pub unbroken_accepted : (n : Net) → IsUnbroken n → NoLoop (network_of n) → Accepted (network_of n)

@@ -57,7 +57,11 @@ front n [] rest past us h = record { head = []; tail = us; solves = tt; all = λ
 front n (t ∷ ts) rest past [] h = absurd h
 front n (t ∷ ts) rest past (u ∷ us) h = front_at n past t ts rest u us (first_fault n past t u) refl h.0 h.1 (λ g. front n ts rest (seen t u ∷ past) us g)
 
-goes_on : {I E : Type 0} (o : Option I) (vs : List (Valuation E)) (A : Type 0) → o ≡ None → Goes o vs A → A
+pub none_here : {I : Type 0} (time : ℤ) (o : Option I) (l : Option (ℤ × I)) → or_later time o l ≡ None → (o ≡ None) × (l ≡ None)
+none_here time None l e = (refl, e)
+none_here time (Some i) l e = absurd (cc)
+
+pub goes_on : {I E : Type 0} (o : Option I) (vs : List (Valuation E)) (A : Type 0) → o ≡ None → Goes o vs A → A
 goes_on None vs A e g = g
 goes_on (Some i) vs A e g = absurd (cc)
 
@@ -68,12 +72,8 @@ fault_on n [] rest past [] us h z = refl
 fault_on n [] rest past (v ∷ vs) us h z = absurd h
 fault_on n (t ∷ ts) rest past [] us h z = absurd h
 fault_on n (t ∷ ts) rest past (v ∷ vs) us h z =
-    let e = no_here t.time (first_fault n past t v) _ z in
+    let e = none_here t.time (first_fault n past t v) _ z in
     none_later t.time (first_fault n past t v) _ e.0 ∙ fault_on n ts rest (seen t v ∷ past) vs us (goes_on (first_fault n past t v) vs _ e.0 h.1) e.1
-  where
-    no_here : {I : Type 0} (time : ℤ) (o : Option I) (l : Option (ℤ × I)) → or_later time o l ≡ None → (o ≡ None) × (l ≡ None)
-    no_here time None l e = (refl, e)
-    no_here time (Some i) l e = absurd (cc)
 
 unless_none : {I : Type 0} (o : Option I) (text : List ℕ) → o ≡ None → unless o text ≡ text
 unless_none None text e = refl
@@ -90,16 +90,12 @@ records_on s [] rest past [] us h z = refl
 records_on s [] rest past (v ∷ vs) us h z = absurd h
 records_on s (t ∷ ts) rest past [] us h z = absurd h
 records_on s (t ∷ ts) rest past (v ∷ vs) us h z =
-    let e = no_here t.time (first_fault s.network past t v) _ z in
+    let e = none_here t.time (first_fault s.network past t v) _ z in
     let r = records_on s ts rest (seen t v ∷ past) vs us (goes_on (first_fault s.network past t v) vs _ e.0 h.1) e.1 in
-    unless_none (first_fault s.network past t v) _ e.0
+    unless_none (first_fault s.network past t v) (record_of s t v ++ records_of s (seen t v ∷ past) (ts ++ rest) (vs ++ us)) e.0
     ∙ ap (λ l. record_of s t v ++ l) r
     ∙ sym (append_assoc (record_of s t v) (records_of s (seen t v ∷ past) ts vs) (records_of s (after (seen t v ∷ past) ts vs) rest us))
     ∙ ap (λ l. l ++ records_of s (after (seen t v ∷ past) ts vs) rest us) (sym (unless_none (first_fault s.network past t v) (record_of s t v ++ records_of s (seen t v ∷ past) ts vs) e.0))
-  where
-    no_here : {I : Type 0} (time : ℤ) (o : Option I) (l : Option (ℤ × I)) → or_later time o l ≡ None → (o ≡ None) × (l ≡ None)
-    no_here time None l e = (refl, e)
-    no_here time (Some i) l e = absurd (cc)
 
 -- solutions that agree have the same records
 pub same_records : {I E : Type 0} (s : Labelled I E) (ts : List Tick) (ps qs : List (Seen E)) (vs ws : List (Valuation E)) → Closed s.network → SamePast s.network ps qs → AgreeAll s.network vs ws → records_of s ps ts vs ≡ records_of s qs ts ws
@@ -160,8 +156,8 @@ first_in {A} f (x ∷ xs) i e = at (f x) e
     at true q = inl (let g : x ≡ i = cc in sym g)
     at false q = inr (first_in f xs i q)
 
-pair_is : {A : Type 0} (x y : A) → Some x ≡ Some y → x ≡ y
-pair_is x y q = cc
+pair_is : {I : Type 0} (p q : ℤ × I) → Some p ≡ Some q → p ≡ q
+pair_is p q e = cc
 
 pub fault_among : {I E : Type 0} (n : Network I E) (ts : List Tick) (past : List (Seen E)) (vs : List (Valuation E)) (time : ℤ) (i : I) → fault_of n past ts vs ≡ Some (time, i) → In i n.instances
 fault_among n [] past vs time i e = absurd (cc)
@@ -171,5 +167,5 @@ fault_among {I} n (t ∷ ts) past (v ∷ vs) time i e = at (first_fault n past t
     at : (o : Option I) → first_fault n past t v ≡ o → or_later t.time o (fault_of n (seen t v ∷ past) ts vs) ≡ Some (time, i) → In i n.instances
     at None z q = fault_among n ts (seen t v ∷ past) vs time i q
     at (Some j) z q =
-        let p = pair_is (t.time, j) (time, i) q in
+        let p = pair_is {I = I} (t.time, j) (time, i) q in
         first_in (is_faulty n past t v) n.instances i (z ∙ ap (λ (w : ℤ × I). Some w.1) p)

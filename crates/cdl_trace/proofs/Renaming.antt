@@ -13,7 +13,7 @@ use Rattle.cdl_table.specs.declared.column.Column.{Column}
 use Rattle.cdl_table.specs.TableRow.{TableRow}
 use Rattle.cdl_table.specs.Trace.{header_text, record_text}
 use Rattle.cdl_trace.specs.Columns.{Labelled, column_of, is_root_output, output_columns, root_outputs}
-use Rattle.cdl_trace.specs.Ends.{Ends, fault_in, record_of, records_of, ticks_of, trace_of, unless}
+use Rattle.cdl_trace.specs.Ends.{Ends, fault_in, fault_text, record_of, records_of, ticks_of, trace_of, unless}
 use Rattle.cdl_trace.proofs.Fronts.{fault_among}
 use Rattle.cdl_trace.proofs.Traces.{Sole, ends_by}
 
@@ -78,15 +78,18 @@ records_back a b m n (t ∷ ts) past (v ∷ vs) s =
     ∙ ap (λ l. unless o (l ++ records_of n (seen t v ∷ past) ts vs)) (record_back a b m n t v s)
     ∙ ap (λ l. unless o (record_of m t (back b v) ++ l)) (records_back a b m n ts (seen t v ∷ past) vs s)
 
+abbrev told_at : ℤ → List ℕ → Option (ℤ × List ℕ)
+told_at time path = Some (time, path)
+
 paths_same : {I E J F : Type 0} (a : I → J) (b : E → F) (m : Labelled I E) (n : Labelled J F) (o : Option (ℤ × I)) → Same a b m n → ((time : ℤ) (i : I) → o ≡ Some (time, i) → In i m.network.instances)
-    → option_map (λ h. (h.0, n.path h.1)) (option_map (rename_fault a) o) ≡ option_map (λ h. (h.0, m.path h.1)) o
+    → option_map (fault_text n) (option_map (rename_fault a) o) ≡ option_map (fault_text m) o
 paths_same a b m n None s h = refl
-paths_same a b m n (Some p) s h = ap (λ t. Some (p.0, t)) (s.path p.1 (h p.0 p.1 refl))
+paths_same a b m n (Some p) s h = ap (told_at p.0) (s.path p.1 (h p.0 p.1 refl))
 
 fault_same : {I E J F : Type 0} (a : I → J) (b : E → F) (m : Labelled I E) (n : Labelled J F) (rows : List TableRow) (vs : List (Valuation F)) → Same a b m n → fault_in n rows vs ≡ fault_in m rows (map (back b) vs)
 fault_same a b m n rows vs s =
     let ts = ticks_of rows in
-    ap (option_map (λ h. (h.0, n.path h.1))) (fault_back a b m.network n.network ts [] vs s.closed s.renamed)
+    ap (option_map (fault_text n)) (fault_back a b m.network n.network ts [] vs s.closed s.renamed)
     ∙ paths_same a b m n (fault_of m.network [] ts (map (back b) vs)) s (λ time i e. fault_among m.network ts [] (map (back b) vs) time i e)
 
 trace_same : {I E J F : Type 0} (a : I → J) (b : E → F) (m : Labelled I E) (n : Labelled J F) (rows : List TableRow) (vs : List (Valuation F)) → Same a b m n → trace_of n rows vs ≡ trace_of m rows (map (back b) vs)

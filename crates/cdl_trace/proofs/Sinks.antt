@@ -10,7 +10,6 @@ use Rattle.cdl_source.proofs.Written.{written_after-append, written_nothing}
 use Rattle.cdl_network.specs.Ticks.{Runs, Solves, Tick, Valuation, fault_of}
 use Rattle.cdl_connect.specs.declared.net.Net.{Net}
 use Rattle.cdl_connect.specs.Nets.{network_of}
-use Rattle.cdl_connect.specs.WellFormed.{path_of}
 use Rattle.cdl_table.specs.TableRow.{TableRow}
 use Rattle.cdl_table.specs.Trace.{FaultIsAnswered as TraceFaultIsAnswered, header_text}
 use Rattle.cdl_table.specs.declared.trace.TraceError.{TraceError}
@@ -18,7 +17,7 @@ use Rattle.cdl_table.specs.declared.trace.TraceError.TheVariants as trace
 use Rattle.cdl_trace.specs.declared.stop.TraceStop.{TraceStop}
 use Rattle.cdl_trace.specs.declared.stop.TraceStop.TheVariants as stop
 use Rattle.cdl_trace.specs.Columns.{Labelled, labelled, output_columns}
-use Rattle.cdl_trace.specs.Ends.{Ends, fault_in, records_of, ticks_of, trace_of}
+use Rattle.cdl_trace.specs.Ends.{Ends, fault_in, fault_text, records_of, ticks_of, trace_of}
 use Rattle.cdl_trace.specs.Prints.{FaultIsAnswered, Prints, PrintsSome, Stops}
 use Rattle.cdl_trace.specs.inner.Steps.{CutsTick, Gives, IsFaulted, Ran, RanSome, SomeOfTick, StopsRows, Wrote, WroteTick, stop_of}
 use Rattle.cdl_trace.proofs.Traces.{Sole, cut_here, ends_by, records_begin, records_more, some_end}
@@ -80,6 +79,9 @@ ran_some s rows ts rest t old mid new o e w p =
       some = subst (λ l. WritesSome old new (records_of s [] l u.0)) (sym e) (some_records s ts rest t u.0 old mid new o w p (subst (λ l. Solves s.network [] l u.0) e u.1));
     }
 
+abbrev told_at : ℤ → List ℕ → Option (ℤ × List ℕ)
+told_at time path = Some (time, path)
+
 -- the tick at which the rows stop
 pub rows_stop : (n : Net) (rows : List TableRow) (ts rest : List Tick) (t : Tick) (old mid new : Option (List ℕ)) (s : TraceStop) → Sole (network_of n) → ticks_of rows ≡ ts ++ t ∷ rest → Wrote (labelled n) ts old mid → CutsTick n ts t mid new s
     → StopsRows (labelled n) rows old new s
@@ -90,7 +92,7 @@ rows_stop n rows ts rest t old mid new (stop.RangeFault time path) o e w c =
     record {
       solution = u.0;
       solves = u.1;
-      fault_is = ap (λ z. Some (z, path)) (sym c.1) ∙ ap (λ p. Some (t.time, p)) c.0.path_is ∙ sym (ap (option_map (λ h. (h.0, path_of n h.1))) there);
+      fault_is = ap (λ (z : ℤ). told_at z path) (sym c.1) ∙ ap (told_at t.time) c.0.path_is ∙ sym (ap (option_map (fault_text (labelled n))) there);
       written = c.2 ∙ w.written ∙ ap (written_after old) (sym (ap (λ l. records_of (labelled n) [] l u.0) e ∙ k.text));
     }
 rows_stop n rows ts rest t old mid new stop.WriteFault o e w c = ran_some (labelled n) rows ts rest t old mid new o e w c
@@ -101,7 +103,7 @@ ran_all s rows ts old new e w =
     record {
       solution = w.values;
       solves = subst (λ l. Solves s.network [] l w.values) e w.runs.0;
-      fault_is = sym (ap (option_map (λ h. (h.0, s.path h.1))) (ap (λ l. fault_of s.network [] l w.values) (sym e) ∙ w.runs.1));
+      fault_is = sym (ap (option_map (fault_text s)) (ap (λ l. fault_of s.network [] l w.values) (sym e) ∙ w.runs.1));
       written = w.written ∙ ap (λ l. written_after old (records_of s [] l w.values)) e;
     }
 

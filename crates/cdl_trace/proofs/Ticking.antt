@@ -32,7 +32,7 @@ use Rattle.cdl_trace.specs.Columns.{column_of, input_columns, is_root_output, la
 use Rattle.cdl_trace.specs.Ends.{tick_of, ticks_of}
 use Rattle.cdl_trace.specs.Rising.{Rise}
 use Rattle.cdl_trace.specs.inner.Steps.{CutsTick, Gives, IsFaulted, output_words}
-use Rattle.cdl_trace.proofs.Fronts.{fault_among, last_of_run}
+use Rattle.cdl_trace.proofs.Fronts.{fault_among, goes_on, last_of_run, none_here}
 use Rattle.cdl_trace.proofs.Traces.{Sole}
 
 pub sole_net : (n : Net) → IsChecked n → AreOfKinds n → NoLoop (network_of n) → Sole (network_of n)
@@ -55,14 +55,6 @@ ticks_split rows i h =
 abbrev time_behind : ℤ → List Tick → ℤ
 time_behind last [] = last
 time_behind last (t ∷ ts) = time_behind t.time ts
-
-none_here : {I : Type 0} (time : ℤ) (o : Option I) (l : Option (ℤ × I)) → or_later time o l ≡ None → (o ≡ None) × (l ≡ None)
-none_here time None l e = (refl, e)
-none_here time (Some i) l e = absurd (cc)
-
-goes_on : {I E : Type 0} (o : Option I) (vs : List (Valuation E)) (A : Type 0) → o ≡ None → Goes o vs A → A
-goes_on None vs A e g = g
-goes_on (Some i) vs A e g = absurd (cc)
 
 last_is : (n : Network ℕ ℕ) (ts : List Tick) (past : List (Seen ℕ)) (vs : List (Valuation ℕ)) → Solves n past ts vs → fault_of n past ts vs ≡ None → last_time (after past ts vs) ≡ time_behind (last_time past) ts
 last_is n [] past [] h z = refl

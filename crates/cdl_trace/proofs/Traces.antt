@@ -11,7 +11,7 @@ use Rattle.cdl_network.proofs.Solving.{fault_more, one_fault, solves_more}
 use Rattle.cdl_table.specs.TableRow.{TableRow}
 use Rattle.cdl_table.specs.Trace.{header_text}
 use Rattle.cdl_trace.specs.Columns.{Labelled, output_columns}
-use Rattle.cdl_trace.specs.Ends.{Ends, fault_in, record_of, records_of, ticks_of, trace_of, unless}
+use Rattle.cdl_trace.specs.Ends.{Ends, fault_in, fault_text, record_of, records_of, ticks_of, trace_of, unless}
 use Rattle.cdl_trace.specs.inner.Steps.{Gives}
 use Rattle.cdl_trace.proofs.Fronts.{Front, fault_on, front, records_on, same_records, unless_some}
 
@@ -46,7 +46,7 @@ ends_by s rows us o f =
     record {
       solution = us;
       solves = f;
-      fault_is = λ vs g. ap (option_map (λ h. (h.0, s.path h.1))) (one_end s.network (ticks_of rows) us vs o f g);
+      fault_is = λ vs g. ap (option_map (fault_text s)) (one_end s.network (ticks_of rows) us vs o f g);
       text_is = λ vs g. ap (λ l. header_text (output_columns s) ++ l) (one_text s (ticks_of rows) us vs o f g);
     }
 
@@ -70,14 +70,14 @@ records_begin s ts rest vs us o r h =
           ∙ ap (λ l. l ++ records_of s (after [] ts f.head) rest f.tail) (one_text s ts f.head vs o f.solves r.0),
     )
 
+some_is : {I : Type 0} (p q : ℤ × I) → Some p ≡ Some q → p ≡ q
+some_is p q e = cc
+
 here_is : {I : Type 0} (time : ℤ) (o : Option I) (i : I) (time2 : ℤ) → or_later time o None ≡ Some (time2, i) → o ≡ Some i
 here_is time None i time2 e = absurd (cc)
-here_is time (Some j) i time2 e =
-    let p : (time, j) ≡ (time2, i) = some_is (time, j) (time2, i) e in
-    ap (λ q. Some q.1) p
-  where
-    some_is : {A : Type 0} (x y : A) → Some x ≡ Some y → x ≡ y
-    some_is x y e = cc
+here_is {I} time (Some j) i time2 e =
+    let p = some_is {I = I} (time, j) (time2, i) e in
+    ap (λ (q : ℤ × I). Some q.1) p
 
 -- a fault at this tick, in each solution
 pub record Cut {I E : Type 0} (s : Labelled I E) (ts rest : List Tick) (t : Tick) (vs us : List (Valuation E)) (i : I) : Type 0 where
@@ -94,7 +94,7 @@ cut_by s ts rest t head (u ∷ us) i f z g h =
     record {
       fault = fault_on s.network ts (t ∷ rest) [] head (u ∷ us) f z ∙ ap (λ p. or_later t.time p (fault_of s.network (seen t u ∷ after [] ts head) rest us)) e;
       text = records_on s ts (t ∷ rest) [] head (u ∷ us) f z
-          ∙ ap (λ l. records_of s [] ts head ++ l) (unless_some o _ i e)
+          ∙ ap (λ l. records_of s [] ts head ++ l) (unless_some o (record_of s t u ++ records_of s (seen t u ∷ after [] ts head) rest us) i e)
           ∙ append-nil (records_of s [] ts head);
     }
 

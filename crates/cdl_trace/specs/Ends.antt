@@ -31,9 +31,13 @@ records_of s past (t ∷ ts) (v ∷ vs) = unless (first_fault s.network past t v
 abbrev pub trace_of : {I E : Type 0} → Labelled I E → List TableRow → List (Valuation E) → List ℕ
 trace_of s rows vs = header_text (output_columns s) ++ records_of s [] (ticks_of rows) vs
 
--- the time of the first fault, and the path of the instance that has it
+-- the time of a fault, and the path of the instance that has it
+abbrev pub fault_text : {I E : Type 0} → Labelled I E → ℤ × I → ℤ × List ℕ
+fault_text s f = (f.0, s.path f.1)
+
+-- the first fault
 abbrev pub fault_in : {I E : Type 0} → Labelled I E → List TableRow → List (Valuation E) → Option (ℤ × List ℕ)
-fault_in s rows vs = option_map (λ f. (f.0, s.path f.1)) (fault_of s.network [] (ticks_of rows) vs)
+fault_in s rows vs = option_map (fault_text s) (fault_of s.network [] (ticks_of rows) vs)
 
 -- The ticks of these rows end with this fault or with none, and print this text: the network has a solution, and each of its solutions has this fault and this text.
 pub record Ends {I E : Type 0} (s : Labelled I E) (rows : List TableRow) (fault : Option (ℤ × List ℕ)) (text : List ℕ) : Type 0 where
