@@ -77,4 +77,39 @@ block A RI u(unit = 1); end A; block M A a[2]; RI v(unit = 1); end M; ? #a[1].u:
 block A parameter Integer k = 1; end A; block M A a[2](k = {1, 1.5}); parameter Integer j = 1 / 0; end M; ? #a[1].k:C26\n\
 block A end A; block M A a[100, 199]; A b[100]; end M; ? #b[100]:C20\n\
 block M RI u[256, 256]; RI v[256, 256]; RI w[256, 256]; RI x[3393]; end M; ? #x:C20\n\
-block M RI u[256, 256]; RI v[256, 256]; RI w[256, 256]; BI x[3392]; CDL.Logical.Not n; end M; ? #n:C20";
+block M RI u[256, 256]; RI v[256, 256]; RI w[256, 256]; BI x[3392]; CDL.Logical.Not n; end M; ? #n:C20\n\
+block A B b; end A; block B C c; end B; block C D d; end C; block D A a; end D; block M A a; end M; ? #a.b.c.d.a:C21\n\
+block M parameter Boolean g = false; M m if g; end M; ? # ;\n\
+block M parameter Boolean g = true; M m if g; end M; ? #m:C21\n\
+block M parameter Integer k = x; end M; ? #k:C27\n\
+block M parameter Integer x = 1; parameter Integer k = x; end M; ? # ;\n\
+block M RI u[4097]; end M; ? #u:C28\n\
+block A end A; block M A a[-1]; end M; ? #a:C28\n\
+block M parameter Integer a = b; parameter Integer b = a; end M; ? #a:C29\n\
+block M parameter Integer p0 = 1; parameter Integer p1 = p0; parameter Integer p2 = p1; parameter Integer p3 = p2; parameter Integer p4 = p3; parameter Integer p5 = p4; parameter Integer p6 = p5; parameter Integer p7 = p6; parameter Integer p8 = p7; parameter Integer p9 = p8; parameter Integer p10 = p9; parameter Integer p11 = p10; parameter Integer p12 = p11; parameter Integer p13 = p12; parameter Integer p14 = p13; parameter Integer p15 = p14; parameter Integer p16 = p15; parameter Integer p17 = p16; parameter Integer p18 = p17; parameter Integer p19 = p18; parameter Integer p20 = p19; parameter Integer p21 = p20; parameter Integer p22 = p21; parameter Integer p23 = p22; parameter Integer p24 = p23; parameter Integer p25 = p24; parameter Integer p26 = p25; parameter Integer p27 = p26; parameter Integer p28 = p27; parameter Integer p29 = p28; parameter Integer p30 = p29; parameter Integer p31 = p30; parameter Integer p32 = p31; parameter Integer p33 = p32; parameter Integer p34 = p33; parameter Integer p35 = p34; parameter Integer p36 = p35; parameter Integer p37 = p36; parameter Integer p38 = p37; parameter Integer p39 = p38; parameter Integer p40 = p39; parameter Integer p41 = p40; parameter Integer p42 = p41; parameter Integer p43 = p42; parameter Integer p44 = p43; parameter Integer p45 = p44; parameter Integer p46 = p45; parameter Integer p47 = p46; parameter Integer p48 = p47; parameter Integer p49 = p48; parameter Integer p50 = p49; parameter Integer p51 = p50; parameter Integer p52 = p51; parameter Integer p53 = p52; parameter Integer p54 = p53; parameter Integer p55 = p54; parameter Integer p56 = p55; parameter Integer p57 = p56; parameter Integer p58 = p57; parameter Integer p59 = p58; parameter Integer p60 = p59; parameter Integer p61 = p60; parameter Integer p62 = p61; parameter Integer p63 = p62; parameter Integer p64 = p63; end M; ? # ;\n\
+block M parameter Integer p0 = 1; parameter Integer p1 = p0; parameter Integer p2 = p1; parameter Integer p3 = p2; parameter Integer p4 = p3; parameter Integer p5 = p4; parameter Integer p6 = p5; parameter Integer p7 = p6; parameter Integer p8 = p7; parameter Integer p9 = p8; parameter Integer p10 = p9; parameter Integer p11 = p10; parameter Integer p12 = p11; parameter Integer p13 = p12; parameter Integer p14 = p13; parameter Integer p15 = p14; parameter Integer p16 = p15; parameter Integer p17 = p16; parameter Integer p18 = p17; parameter Integer p19 = p18; parameter Integer p20 = p19; parameter Integer p21 = p20; parameter Integer p22 = p21; parameter Integer p23 = p22; parameter Integer p24 = p23; parameter Integer p25 = p24; parameter Integer p26 = p25; parameter Integer p27 = p26; parameter Integer p28 = p27; parameter Integer p29 = p28; parameter Integer p30 = p29; parameter Integer p31 = p30; parameter Integer p32 = p31; parameter Integer p33 = p32; parameter Integer p34 = p33; parameter Integer p35 = p34; parameter Integer p36 = p35; parameter Integer p37 = p36; parameter Integer p38 = p37; parameter Integer p39 = p38; parameter Integer p40 = p39; parameter Integer p41 = p40; parameter Integer p42 = p41; parameter Integer p43 = p42; parameter Integer p44 = p43; parameter Integer p45 = p44; parameter Integer p46 = p45; parameter Integer p47 = p46; parameter Integer p48 = p47; parameter Integer p49 = p48; parameter Integer p50 = p49; parameter Integer p51 = p50; parameter Integer p52 = p51; parameter Integer p53 = p52; parameter Integer p54 = p53; parameter Integer p55 = p54; parameter Integer p56 = p55; parameter Integer p57 = p56; parameter Integer p58 = p57; parameter Integer p59 = p58; parameter Integer p60 = p59; parameter Integer p61 = p60; parameter Integer p62 = p61; parameter Integer p63 = p62; parameter Integer p64 = p63; parameter Integer p65 = p64; end M; ? #p65:C29\n\
+block M parameter Integer k; end M; ? #k:C31\n\
+block M parameter Integer k = 1; end M; ? # ;\n\
+block M parameter Integer k = 1.5; end M; ? #k:C26\n\
+block M parameter Integer k[2] = {1, 2, 3}; end M; ? #k:C25\n\
+block M parameter Integer k[2] = {1, 2}; end M; ? # ;\n\
+block M parameter Real k = 1 / 2; end M; ? # ;\n\
+block M RI u(unit = \"aaaaaaaaaaaaaaaaaaaaaaaaaaaaaaaaaaaaaaaaaaaaaaaaaaaaaaaaaaaaaaaa\"); end M; ? # ; #u:aaaaaaaaaaaaaaaaaaaaaaaaaaaaaaaaaaaaaaaaaaaaaaaaaaaaaaaaaaaaaaaa\n\
+block M CDL.Reals.Hysteresis h(uLow = 1, uHigh = 1); end M; ? #h:C32\n\
+block M CDL.Reals.Hysteresis h(uHigh = 1); end M; ? #h.uLow:C31\n\
+block M CDL.Reals.Hysteresis h(uLow = 0, uHigh = 1); end M; ? # #h ; #h.u #h.y\n\
+block B RI u; end B; block A B b[2]; end A; block M A a[2, 2]; end M; ? # #a[1,1] #a[1,1].b[1] #a[1,1].b[2] #a[1,2] #a[1,2].b[1] #a[1,2].b[2] #a[2,1] #a[2,1].b[1] #a[2,1].b[2] #a[2,2] #a[2,2].b[1] #a[2,2].b[2] ; #a[1,1].b[1].u #a[1,1].b[2].u #a[1,2].b[1].u #a[1,2].b[2].u #a[2,1].b[1].u #a[2,1].b[2].u #a[2,2].b[1].u #a[2,2].b[2].u\n\
+block B end B; block A B b[1, 2]; RI v[2, 1]; end A; block M A a[2]; end M; ? # #a[1] #a[1].b[1,1] #a[1].b[1,2] #a[2] #a[2].b[1,1] #a[2].b[1,2] ; #a[1].v[1,1] #a[1].v[2,1] #a[2].v[1,1] #a[2].v[2,1]\n\
+block A end A; block M A a(x = 1); A b[1.5]; end M; ? #a:C22\n\
+block A end A; block M A b[1.5]; A a(x = 1); end M; ? #b:C26\n\
+block A final parameter Integer x = 1; end A; block M A a(x = 2); parameter Integer k = 1 / 0; end M; ? #a.x:C24\n\
+block A final parameter Integer x = 1; end A; block M parameter Integer k = 1 / 0; A a(x = 2); end M; ? #k:C30\n\
+block A parameter Integer x = 1; end A; block B A a; end B; block C B b(final a(x = 1)); end C; block M C c(b(a(x = 2))); end M; ? #c.b.a.x:C24\n\
+block A parameter Integer x = 1; end A; block B A a; end B; block C B b(a(x = 1)); end C; block M C c(b(a(x = 2))); end M; ? # #c #c.b #c.b.a ;\n\
+block K RI u; end K; block B K k(final u(unit = \"K\")); end B; block M B b(k(u(unit = \"m\"))); end M; ? #b.k.u:C24\n\
+block K RI u; end K; block B K k(u(unit = \"K\")); end B; block M B b(k(u(unit = \"m\"))); end M; ? # #b #b.k ; #b.k.u:m";
+
+// Behind `?` the numbers of the instances and of the elements.
+pub const COUNTS: &str = "\
+block A end A; block M A a[100, 199]; A b[99]; end M; ? 20000 0\n\
+block M RI u[256, 256]; RI v[256, 256]; RI w[256, 256]; BI x[3392]; end M; ? 1 200000";

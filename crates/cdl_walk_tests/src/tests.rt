@@ -3,7 +3,7 @@ ghost use Rattle.std.specs.Prelude.{◌≡◌, true, IfOk, OnOk};
 ghost use Rattle.std.specs.List.{list_all};
 ghost use Rattle.cdl_tree.specs.FormedFiles.{formed_file};
 
-use crate::cases::CASES;
+use crate::cases::{CASES, COUNTS};
 use crate::shown::show;
 use cdl_classes::ClassTable;
 use cdl_lex::lex;
@@ -88,6 +88,31 @@ fn the_walk_finds_what_stands_or_the_first_broken_rule(rt: HostRuntime) -> Resul
     for row in CASES.lines() {
         let (texts, want) = row.split_once(" ? ").ok_or("no answer")?;
         let answer = answer(rt.alloc(), texts)?;
+        assert!(rt; answer.as_str() == want, "{texts}: {answer}, not {want}");
+    }
+    Ok(())
+}
+
+// How many instances and elements the walk of the block M finds.
+fn counts(alloc: Global, texts: &str) -> Result<String, Fail> {
+    let table = table(alloc, texts)?;
+    let root = table.root("M").ok_or("no root")?;
+    let mut elaborator = Elaborator::new(alloc, &table, root);
+    match walk(alloc, &mut elaborator) {
+        Ok(walked) => {
+            let instances = walked.instances.items().len();
+            let elements = walked.elements.items().len();
+            Ok(format!(in alloc; "{instances} {elements}")?)
+        }
+        Err(_) => Err("a rule is broken".into()),
+    }
+}
+
+#[test]
+fn models_are_as_large_as_they_may_be(rt: HostRuntime) -> Result<(), Fail> {
+    for row in COUNTS.lines() {
+        let (texts, want) = row.split_once(" ? ").ok_or("no answer")?;
+        let answer = counts(rt.alloc(), texts)?;
         assert!(rt; answer.as_str() == want, "{texts}: {answer}, not {want}");
     }
     Ok(())
