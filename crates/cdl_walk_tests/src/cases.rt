@@ -75,9 +75,6 @@ block A final parameter Integer x = 1 / 0; end A; block M A a(x = 2); end M; ? #
 block A final parameter Integer x(foo = 1) = 1; end A; block M A a(x = 2); end M; ? #a.x:C22\n\
 block A RI u(unit = 1); end A; block M A a[2]; RI v(unit = 1); end M; ? #a[1].u:C26\n\
 block A parameter Integer k = 1; end A; block M A a[2](k = {1, 1.5}); parameter Integer j = 1 / 0; end M; ? #a[1].k:C26\n\
-block A end A; block M A a[100, 199]; A b[100]; end M; ? #b[100]:C20\n\
-block M RI u[256, 256]; RI v[256, 256]; RI w[256, 256]; RI x[3393]; end M; ? #x:C20\n\
-block M RI u[256, 256]; RI v[256, 256]; RI w[256, 256]; BI x[3392]; CDL.Logical.Not n; end M; ? #n:C20\n\
 block A B b; end A; block B C c; end B; block C D d; end C; block D A a; end D; block M A a; end M; ? #a.b.c.d.a:C21\n\
 block M parameter Boolean g = false; M m if g; end M; ? # ;\n\
 block M parameter Boolean g = true; M m if g; end M; ? #m:C21\n\
@@ -108,6 +105,12 @@ block A parameter Integer x = 1; end A; block B A a; end B; block C B b(final a(
 block A parameter Integer x = 1; end A; block B A a; end B; block C B b(a(x = 1)); end C; block M C c(b(a(x = 2))); end M; ? # #c #c.b #c.b.a ;\n\
 block K RI u; end K; block B K k(final u(unit = \"K\")); end B; block M B b(k(u(unit = \"m\"))); end M; ? #b.k.u:C24\n\
 block K RI u; end K; block B K k(u(unit = \"K\")); end B; block M B b(k(u(unit = \"m\"))); end M; ? # #b #b.k ; #b.k.u:m";
+
+// Models that are too large.
+pub const TOO_LARGE: &str = "\
+block A end A; block M A a[100, 199]; A b[100]; end M; ? #b[100]:C20\n\
+block M RI u[256, 256]; RI v[256, 256]; RI w[256, 256]; RI x[3393]; end M; ? #x:C20\n\
+block M RI u[256, 256]; RI v[256, 256]; RI w[256, 256]; BI x[3392]; CDL.Logical.Not n; end M; ? #n:C20";
 
 // Behind `?` the numbers of the instances and of the elements.
 pub const COUNTS: &str = "\

@@ -23,7 +23,9 @@ fn push_element(
     instances: &[Instance],
     element: &Element,
 ) -> Result<(), Fail> {
-    let instance = instances.get(element.instance as usize).ok_or("no instance")?;
+    let instance = instances
+        .get(element.instance as usize)
+        .ok_or("no instance")?;
     push_path(alloc, text, &instance.path)?;
     if !instance.path.steps.items().is_empty() {
         text.push_str(".")?;

@@ -3,7 +3,7 @@ ghost use Rattle.std.specs.Prelude.{◌≡◌, true, IfOk, OnOk};
 ghost use Rattle.std.specs.List.{list_all};
 ghost use Rattle.cdl_tree.specs.FormedFiles.{formed_file};
 
-use crate::cases::{CASES, COUNTS};
+use crate::cases::{CASES, COUNTS, TOO_LARGE};
 use crate::shown::show;
 use cdl_classes::ClassTable;
 use cdl_lex::lex;
@@ -86,6 +86,16 @@ fn answer(alloc: Global, texts: &str) -> Result<String, Fail> {
 #[test]
 fn the_walk_finds_what_stands_or_the_first_broken_rule(rt: HostRuntime) -> Result<(), Fail> {
     for row in CASES.lines() {
+        let (texts, want) = row.split_once(" ? ").ok_or("no answer")?;
+        let answer = answer(rt.alloc(), texts)?;
+        assert!(rt; answer.as_str() == want, "{texts}: {answer}, not {want}");
+    }
+    Ok(())
+}
+
+#[test]
+fn the_walk_ends_at_what_is_too_large(rt: HostRuntime) -> Result<(), Fail> {
+    for row in TOO_LARGE.lines() {
         let (texts, want) = row.split_once(" ? ").ok_or("no answer")?;
         let answer = answer(rt.alloc(), texts)?;
         assert!(rt; answer.as_str() == want, "{texts}: {answer}, not {want}");
