@@ -1,12 +1,12 @@
 -- The windows of instances, and the net's lists from the walk's.
-use Rattle.std.proofs.Common.{◌≡◌, ◌⊎◌, ℕ, zero, suc, ◌+◌, ◌-◌, ◌<◌, ◌≤◌, ◌==◌, Bool, true, false, cond, List, [], ◌∷◌, ◌++◌, map, filter, length, Option, Some, None, slice_get, refl, sym, ap, ◌∙◌, subst, arith, inl, inr}
+use Rattle.std.proofs.Common.{length-append, ◌≡◌, ◌⊎◌, ℕ, zero, suc, ◌+◌, ◌-◌, ◌<◌, ◌≤◌, ◌==◌, Bool, true, false, cond, List, [], ◌∷◌, ◌++◌, map, filter, length, Option, Some, None, slice_get, refl, sym, ap, ◌∙◌, subst, arith, inl, inr}
 use Rattle.std.specs.Prelude.{nat_lt, option_map, slice_index_or}
 use Rattle.std.specs.List.Sorted.{IsNonDecreasingBy, IsStableByKey}
 use Rattle.std.specs.Ordering.{nat_cmp}
 use Rattle.std.proofs.lemmas.Bool.{eq-eqb, lt-ltb, le-ltb}
 use Rattle.std.proofs.lemmas.List.{length-map}
 use Rattle.std.proofs.lemmas.List.Sums.{length-filter}
-use Rattle.std.proofs.lemmas.Option.{slice_get_within}
+use Rattle.std.proofs.lemmas.Option.{slice_get_within, slice_get-get_or}
 use Rattle.cdl_source.proofs.Cases.{by_bool, by_lt}
 use Rattle.cdl_connect.specs.declared.net.Body.{Body}
 use Rattle.cdl_connect.specs.declared.net.NetElement.{NetElement}
@@ -158,3 +158,38 @@ module _ (m : Walked) (ws : List (Wire (List Step) ElementName)) (es : List Elem
     where
       with_instance : ℕ → Element → NetElement
       with_instance n e = record { instance = n; name = step_text (record { name = e.point.name; indices = e.point.indices }); value_type = e.point.value_type; unit = e.point.unit; input = e.point.input }
+
+-- ---- steps of the code
+
+index_same : (es : List Element) (k : ℕ) (d e : Element) → k < length es → slice_index_or es k d ≡ slice_index_or es k e
+index_same es k d e l = let h : Some (slice_index_or es k d) ≡ Some (slice_index_or es k e) = sym (slice_get-get_or es k d l) ∙ slice_get-get_or es k e l in cc
+
+pub stopped : (es : List Element) (i first end : ℕ) (e : Element) → IsNonDecreasingBy (λ (z : Element). z.instance) es → IsBoundary es i first → first ≤ end → end < length es
+    → ((x : ℕ) (d : Element) → first ≤ x → x < end → (slice_index_or es x d).instance ≡ i) → ((slice_index_or es end e).instance ≡ i → ⊥) → IsBoundary es (i + 1) end
+stopped es i first end e s b f l own differs = record {
+  within = omega (arith, l);
+  before = λ x d m. by_lt x first (λ g. let h = b.before x d g in omega (arith, h)) (λ g. let h = own x d g m in omega (arith, h));
+  behind = λ x d g m.
+      let up : (slice_index_or es end d).instance ≤ (slice_index_or es x d).instance = s end x d g m in
+      let low : i ≤ (slice_index_or es end e).instance = b.behind end e f l in
+      let here : (slice_index_or es end d).instance ≡ (slice_index_or es end e).instance = ap (λ (z : Element). z.instance) (index_same es end d e l) in
+      let more : i < (slice_index_or es end e).instance = by_lt i (slice_index_or es end e).instance (λ h. h) (λ h. absurd (differs (omega (arith, low, h)))) in
+      omega (arith, up, here, more);
+}
+
+pub more : (es : List Element) (ys : List Instance) (x : Instance) (all items new : List NetInstance) (item : NetInstance) (first end : ℕ) → all ≡ at_numbers es 0 ys → items ≡ all → IsBoundary es (length ys) first
+    → IsBoundary es (length items + 1) end → item ≡ with_window x first (end - first) → new ≡ all ++ item ∷ [] → (new ≡ at_numbers es 0 (ys ++ x ∷ [])) × IsBoundary es (length (ys ++ x ∷ [])) end
+more es ys x all items new item first end so lent b c w push =
+    let size : length items ≡ length ys = ap length (lent ∙ so) ∙ numbers_length es 0 ys in
+    let next : IsBoundary es (length ys + 1) end = subst (λ n. IsBoundary es (n + 1) end) size c in
+    let grown : length (ys ++ x ∷ []) ≡ length ys + 1 = length-append ys (x ∷ []) in
+    let zero_is : length ys ≡ 0 + length ys = omega arith in
+    (
+      push ∙ ap (λ (l : List NetInstance). l ++ item ∷ []) so
+      ∙ ap (λ z. at_numbers es 0 ys ++ z ∷ []) (w ∙ window_is es (length ys) first end x b next ∙ ap (λ n. at_number es n x) zero_is)
+      ∙ sym (numbers_push es 0 ys x),
+      subst (λ n. IsBoundary es n end) (sym grown) next,
+    )
+
+pub lent_first : (es : List Element) (ys : List Instance) (all items : List NetInstance) (first : ℕ) → all ≡ at_numbers es 0 ys → items ≡ all → IsBoundary es (length ys) first → IsBoundary es (length items) first
+lent_first es ys all items first so lent b = subst (λ n. IsBoundary es n first) (sym (ap length (lent ∙ so) ∙ numbers_length es 0 ys)) b
