@@ -47,14 +47,14 @@ grow : (e : Element) (es : List Element) (n a : ℕ) → a ≤ e.instance → e.
 grow e es zero a l m f = absurd (omega (arith, l, m))
 grow e es (suc n) a l m f = by_bool (of a e)
     (λ t. let q : e.instance ≡ a = eqb-true e.instance a t in
-        ap (λ b. cond b (e ∷ filter (of a) es) (filter (of a) es) ++ group (suc a) n (e ∷ es)) t
-        ∙ ap (λ (l : List Element). (e ∷ filter (of a) es) ++ l) (skip e es n (suc a) (omega (arith, q))))
+    ap (λ b. cond b (e ∷ filter (of a) es) (filter (of a) es) ++ group (suc a) n (e ∷ es)) t
+    ∙ ap (λ (l : List Element). (e ∷ filter (of a) es) ++ l) (skip e es n (suc a) (omega (arith, q))))
     (λ t. let up : a < e.instance = above t in
-        let none : filter (of a) es ≡ [] = filter_no (of a) es (λ x i. let g = f x i in unequal x.instance a (λ q. omega (arith, q, g, up))) in
-        ap (λ b. cond b (e ∷ filter (of a) es) (filter (of a) es) ++ group (suc a) n (e ∷ es)) t
-        ∙ ap (λ (l : List Element). l ++ group (suc a) n (e ∷ es)) none
-        ∙ grow e es n (suc a) (omega (arith, up)) (omega (arith, m)) f
-        ∙ ap (λ (l : List Element). e ∷ (l ++ group (suc a) n es)) (sym none))
+    let none : filter (of a) es ≡ [] = filter_no (of a) es (λ x i. let g = f x i in unequal x.instance a (λ q. omega (arith, q, g, up))) in
+    ap (λ b. cond b (e ∷ filter (of a) es) (filter (of a) es) ++ group (suc a) n (e ∷ es)) t
+    ∙ ap (λ (l : List Element). l ++ group (suc a) n (e ∷ es)) none
+    ∙ grow e es n (suc a) (omega (arith, up)) (omega (arith, m)) f
+    ∙ ap (λ (l : List Element). e ∷ (l ++ group (suc a) n es)) (sym none))
   where
     above : of a e ≡ false → a < e.instance
     above t = by_lt a e.instance (λ h. h) (λ h. let q : e.instance ≡ a = omega (arith, l, h) in absurd (false≢true (sym t ∙ eq-eqb e.instance a q)))
@@ -68,11 +68,11 @@ pub rises : (es : List Element) → IsNonDecreasingBy (λ (e : Element). e.insta
 rises [] s = tt
 rises (e ∷ es) s = (
   λ x i.
-    let k = slice_in x es i in
-    let g : slice_index_or es k.0 e ≡ x = get_or_from_slice_get es k.0 x e k.1 in
-    let w : k.0 < length es = slice_get_within es k.0 x k.1 in
-    let h : e.instance ≤ (slice_index_or es k.0 e).instance = s 0 (suc k.0) e (omega arith) (omega (arith, w)) in
-    subst (λ (z : Element). e.instance ≤ z.instance) g h,
+      let k = slice_in x es i in
+      let g : slice_index_or es k.0 e ≡ x = get_or_from_slice_get es k.0 x e k.1 in
+      let w : k.0 < length es = slice_get_within es k.0 x k.1 in
+      let h : e.instance ≤ (slice_index_or es k.0 e).instance = s 0 (suc k.0) e (omega arith) (omega (arith, w)) in
+      subst (λ (z : Element). e.instance ≤ z.instance) g h,
   rises es (λ i j d l m. s (suc i) (suc j) d (omega (arith, l)) (omega (arith, m))),
 )
 
@@ -96,9 +96,9 @@ tie : (a b : ℕ) → (not (is_lt (nat_cmp a b)) && not (is_lt (nat_cmp b a))) �
 tie a b = by_lt a b
     (λ l. ap (λ o. not (is_lt o) && not (is_lt (nat_cmp b a))) (sym (nat_cmp_is a b Less l)) ∙ sym (unequal b a (λ q. omega (arith, l, q))))
     (λ g. by_lt b a
-      (λ l. and_right (not (is_lt (nat_cmp a b))) (not (is_lt (nat_cmp b a))) (ap (λ o. not (is_lt o)) (sym (nat_cmp_is b a Less l))) ∙ sym (unequal b a (λ q. omega (arith, l, q))))
-      (λ h. let q : a ≡ b = omega (arith, g, h) in
-        ap (λ o. not (is_lt o) && not (is_lt (nat_cmp b a))) (sym (nat_cmp_is a b Equal q)) ∙ ap (λ o. not (is_lt o)) (sym (nat_cmp_is b a Equal (sym q))) ∙ sym (eq-eqb b a (sym q))))
+    (λ l. and_right (not (is_lt (nat_cmp a b))) (not (is_lt (nat_cmp b a))) (ap (λ o. not (is_lt o)) (sym (nat_cmp_is b a Less l))) ∙ sym (unequal b a (λ q. omega (arith, l, q))))
+    (λ h. let q : a ≡ b = omega (arith, g, h) in
+    ap (λ o. not (is_lt o) && not (is_lt (nat_cmp b a))) (sym (nat_cmp_is a b Equal q)) ∙ ap (λ o. not (is_lt o)) (sym (nat_cmp_is b a Equal (sym q))) ∙ sym (eq-eqb b a (sym q))))
 
 blank : Point
 blank = record { name = []; indices = []; value_type = Boolean; input = false; unit = [] }

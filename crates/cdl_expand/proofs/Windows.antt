@@ -65,14 +65,15 @@ up_to (e ∷ es) i = ap (λ z. cond (before_it (i + 1) e) (suc z) z) (up_to es i
     cases = by_lt e.instance i
         (λ l. inl (lt-ltb e.instance i l, unequal e.instance i (λ q. omega (arith, l, q))))
         (λ g. inr (by_lt i e.instance
-            (λ l. inr (le-ltb e.instance i g, unequal e.instance i (λ q. omega (arith, l, q))))
-            (λ h. inl (le-ltb e.instance i g, eq-eqb e.instance i (omega (arith, g, h))))))
+        (λ l. inr (le-ltb e.instance i g, unequal e.instance i (λ q. omega (arith, l, q))))
+        (λ h. inl (le-ltb e.instance i g, eq-eqb e.instance i (omega (arith, g, h))))))
+
     is : before_it (i + 1) e ≡ cond (before_it i e) true (of i e)
     is = by_lt e.instance i
         (λ l. lt-ltb e.instance (i + 1) (omega (arith, l)) ∙ sym (ap (λ t. cond t true (of i e)) (lt-ltb e.instance i l)))
         (λ g. by_lt i e.instance
-            (λ l. le-ltb e.instance (i + 1) (omega (arith, l)) ∙ sym (ap (λ t. cond t true (of i e)) (le-ltb e.instance i g) ∙ unequal e.instance i (λ q. omega (arith, l, q))))
-            (λ h. lt-ltb e.instance (i + 1) (omega (arith, h)) ∙ sym (ap (λ t. cond t true (of i e)) (le-ltb e.instance i g) ∙ eq-eqb e.instance i (omega (arith, g, h)))))
+        (λ l. le-ltb e.instance (i + 1) (omega (arith, l)) ∙ sym (ap (λ t. cond t true (of i e)) (le-ltb e.instance i g) ∙ unequal e.instance i (λ q. omega (arith, l, q))))
+        (λ h. lt-ltb e.instance (i + 1) (omega (arith, h)) ∙ sym (ap (λ t. cond t true (of i e)) (le-ltb e.instance i g) ∙ eq-eqb e.instance i (omega (arith, g, h)))))
 
 pub count_own : (es : List Element) (i j k : ℕ) → IsBoundary es i j → IsBoundary es (i + 1) k → count (of i) es ≡ k - j
 count_own es i j k b c =
@@ -136,10 +137,10 @@ module _ (m : Walked) (ws : List (Wire (List Step) ElementName)) (es : List Elem
       ap (λ o. made (path_text x.path.steps) o (body_of x.content) (count (before_it i) es) (count (of i) es)) (parent_is i x.path.steps x.parent l (p.parents i x e))
       ∙ ap (λ n. made (path_text x.path.steps) (option_map (instance_number (instances_seen m)) (parent_path x.path.steps)) (body_of x.content) n (count (of i) es)) (first_is i l)
       ∙ ap (λ n. made (path_text x.path.steps) (option_map (instance_number (instances_seen m)) (parent_path x.path.steps)) (body_of x.content)
-          (count (λ (y : Owned). nat_lt (instance_number (instances_seen m) y.path) (instance_number (instances_seen m) (path_at m.instances i))) (by_instance (instances_seen m) (elements_seen m))) n) (count_own_is i l)
+      (count (λ (y : Owned). nat_lt (instance_number (instances_seen m) y.path) (instance_number (instances_seen m) (path_at m.instances i))) (by_instance (instances_seen m) (elements_seen m))) n) (count_own_is i l)
       ∙ ap (λ z. made (path_text x.path.steps) (option_map (instance_number (instances_seen m)) (parent_path x.path.steps)) (body_of x.content)
-          (count (λ (y : Owned). nat_lt (instance_number (instances_seen m) y.path) (instance_number (instances_seen m) z)) (by_instance (instances_seen m) (elements_seen m)))
-          (length (own (by_instance (instances_seen m) (elements_seen m)) z))) q
+      (count (λ (y : Owned). nat_lt (instance_number (instances_seen m) y.path) (instance_number (instances_seen m) z)) (by_instance (instances_seen m) (elements_seen m)))
+      (length (own (by_instance (instances_seen m) (elements_seen m)) z))) q
 
   instances_from : (ys : List Instance) (b : ℕ) → ((k : ℕ) (y : Instance) → slice_get ys k ≡ Some y → slice_get m.instances (b + k) ≡ Some y) → at_numbers es b ys ≡ map (net_instance (unfolded m ws)) (map seen_instance ys)
   instances_from [] b f = refl
@@ -183,11 +184,10 @@ more es ys x all items new item first end so lent b c w push =
     let size : length items ≡ length ys = ap length (lent ∙ so) ∙ numbers_length es 0 ys in
     let next : IsBoundary es (length ys + 1) end = subst (λ n. IsBoundary es (n + 1) end) size c in
     let grown : length (ys ++ x ∷ []) ≡ length ys + 1 = length-append ys (x ∷ []) in
-    let zero_is : length ys ≡ 0 + length ys = omega arith in
-    (
+    let zero_is : length ys ≡ 0 + length ys = omega arith in (
       push ∙ ap (λ (l : List NetInstance). l ++ item ∷ []) so
-      ∙ ap (λ z. at_numbers es 0 ys ++ z ∷ []) (w ∙ window_is es (length ys) first end x b next ∙ ap (λ n. at_number es n x) zero_is)
-      ∙ sym (numbers_push es 0 ys x),
+          ∙ ap (λ z. at_numbers es 0 ys ++ z ∷ []) (w ∙ window_is es (length ys) first end x b next ∙ ap (λ n. at_number es n x) zero_is)
+          ∙ sym (numbers_push es 0 ys x),
       subst (λ n. IsBoundary es n end) (sym grown) next,
     )
 

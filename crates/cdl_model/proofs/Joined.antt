@@ -1,5 +1,5 @@
 -- Lists in which no item stands twice.
-use Rattle.std.proofs.Common.{◌≡◌, ◌⊎◌, ℕ, zero, suc, ◌<◌, Bool, true, false, cond, List, [], ◌∷◌, ◌++◌, map, filter, refl, sym, ap, ◌∙◌, subst, arith, inl, inr}
+use Rattle.std.proofs.Common.{◌≡◌, ◌⊎◌, ℕ, zero, suc, ◌<◌, Bool, cond, List, [], ◌∷◌, ◌++◌, map, filter, refl, sym, ap, ◌∙◌, subst, arith, inl, inr}
 use Rattle.std.proofs.lemmas.List.{map-append}
 use Rattle.cdl_source.proofs.Cases.{by_bool}
 use Rattle.cdl_network.specs.Lists.{Apart, In}
@@ -54,9 +54,9 @@ module _ {A B : Type 0} where
   apart_filter f g [] a = tt
   apart_filter f g (x ∷ xs) a = by_bool (f x)
       (λ t. subst (λ b. Apart (map g (cond b (x ∷ filter f xs) (filter f xs)))) (sym t) (
-          λ i. let z = of_map g (g x) (filter f xs) i in a.0 (subst (λ y. In y (map g xs)) (sym z.2) (in_map g z.0 xs (in_filter f z.0 xs z.1))),
-          apart_filter f g xs a.1,
-        ))
+        λ i. let z = of_map g (g x) (filter f xs) i in a.0 (subst (λ y. In y (map g xs)) (sym z.2) (in_map g z.0 xs (in_filter f z.0 xs z.1))),
+        apart_filter f g xs a.1,
+      ))
       (λ t. subst (λ b. Apart (map g (cond b (x ∷ filter f xs) (filter f xs)))) (sym t) (apart_filter f g xs a.1))
 
   pub of_tabulate : (g : A → B) (n : ℕ) (f : ℕ → A) (y : B) → In y (map g (tabulate n f)) → (k : ℕ) × (k < n) × (y ≡ g (f k))

@@ -1,5 +1,5 @@
 -- Instances and elements of a model stand once, behind what they are of.
-use Rattle.std.proofs.Common.{◌≡◌, ◌⊎◌, ℕ, zero, suc, ◌+◌, ◌-◌, length-append, ◌<◌, ◌≤◌, Bool, true, false, cond, List, [], ◌∷◌, ◌++◌, map, filter, length, Option, Some, None, Ok, Err, refl, sym, ap, ◌∙◌, subst, arith, inl, inr}
+use Rattle.std.proofs.Common.{◌≡◌, ◌⊎◌, ℕ, ◌+◌, ◌-◌, length-append, ◌≤◌, Bool, true, false, cond, List, [], ◌∷◌, ◌++◌, map, length, Some, None, Ok, Err, refl, sym, ap, ◌∙◌, subst, arith, inl, inr}
 use Rattle.std.proofs.lemmas.List.{map-append, take_at}
 use Rattle.cdl_values.specs.declared.value.Array.{Array}
 use Rattle.cdl_values.specs.declared.value.Value.{Value}
@@ -10,18 +10,18 @@ use Rattle.cdl_kinds.specs.declared.kind.Kind.{Kind}
 use Rattle.cdl_kinds.specs.Ports.{nin_or_nout}
 use Rattle.cdl_kinds.specs.Table.{Group, row}
 use Rattle.cdl_network.specs.Lists.{In, Apart}
-use Rattle.cdl_network.proofs.Inside.{in_filter, kept_true}
+use Rattle.cdl_network.proofs.Inside.{kept_true}
 use Rattle.cdl_network.proofs.Renaming.{in_map, of_map}
 use Rattle.cdl_scopes.specs.Lookup.{item_name}
 use Rattle.cdl_classes.specs.declared.found.ClassId.{ClassId}
 use Rattle.cdl_paths.specs.declared.path.Step.{Step}
 use Rattle.cdl_params.specs.Kept.{Model}
-use Rattle.cdl_stations.specs.Keys.{Key, Before, Sorted, Lists, In as InKeys}
+use Rattle.cdl_stations.specs.Keys.{Key, Sorted, Lists, In as InKeys}
 use Rattle.cdl_stations.proofs.Unique.{before_self}
 use Rattle.cdl_walk.specs.declared.role.Part.{Part}
 use Rattle.cdl_walk.specs.declared.role.Part.TheVariants as part
 use Rattle.cdl_walk.specs.declared.walked.Point.{Point}
-use Rattle.cdl_walk.specs.Elements.{points, point_at, port_sizes, indices_at, tabulate}
+use Rattle.cdl_walk.specs.Elements.{points, point_at, port_sizes, indices_at}
 use Rattle.cdl_walk.specs.Events.{outer, same_steps}
 use Rattle.cdl_walk.specs.Stations.{the_root}
 use Rattle.cdl_walk.specs.Instances.{Thing, Block, Elementary, Elements, Seen, Owned, owned_by, plain_units, ports_from, ports_of, IsOfKind, IsPart, IsThing, elements_from, instances_in, elements_in}
@@ -30,10 +30,10 @@ use Rattle.cdl_model.specs.Parts.{Unfolding, AreParts, own, by_instance}
 use Rattle.cdl_model.specs.Networks.{paths, names, name_of, parent_path}
 use Rattle.cdl_model.specs.Apart.{NamesApart, AreApart}
 use Rattle.cdl_model.proofs.Tests.{steps_yes}
-use Rattle.cdl_model.proofs.Joined.{in_left, in_right, in_either, apart_append, apart_left, apart_right, apart_across, apart_filter, apart_tabulate, of_keys, map_map}
+use Rattle.cdl_model.proofs.Joined.{in_left, in_right, in_either, apart_append, apart_left, apart_right, apart_across, apart_filter, apart_tabulate, map_map}
 use Rattle.cdl_model.proofs.Sized.{dims_few, indices_apart}
 use Rattle.cdl_model.proofs.Rows.{group_names, ports_apart}
-use Rattle.cdl_model.proofs.Keyed.{Marks, Mark, Below, OfKind, point_names, step, at_item, below, above, of_kind, block_mark, item_mark, kind_mark, own_points, point_name}
+use Rattle.cdl_model.proofs.Keyed.{Marks, Mark, Below, point_names, step, at_item, below, above, of_kind, block_mark, item_mark, kind_mark, own_points, point_name}
 use Rattle.cdl_model.proofs.Unique.{same_key}
 
 abbrev Things : Type 0
@@ -121,13 +121,12 @@ port_few n false = omega arith
 joined_once : (p : List Step) (gs hs : List Group) (ps qs : List Point) → Apart (group_names (gs ++ hs)) → PortsOnce p gs ps → PortsOnce p hs qs → PortsOnce p (gs ++ hs) (ps ++ qs)
 joined_once p gs hs ps qs a x y =
     let split : group_names (gs ++ hs) ≡ group_names gs ++ group_names hs = map-append (λ (g : Group). g.name) gs hs in
-    let apart : Apart (group_names gs ++ group_names hs) = subst (λ l. Apart l) split a in
-    (
+    let apart : Apart (group_names gs ++ group_names hs) = subst (λ l. Apart l) split a in (
       subst (λ l. Apart l) (sym (map-append (named_point p) ps qs)) (apart_append (map (named_point p) ps) (map (named_point p) qs) x.0 y.0 (λ z i j.
-        let u = of_map (named_point p) z ps i in
-        let v = of_map (named_point p) z qs j in
-        let same : v.0.name ≡ u.0.name = ap (λ (n : ElementName). n.name) (sym v.2 ∙ u.2) in
-        apart_across (group_names gs) (group_names hs) u.0.name apart (x.1 u.0 u.1) (subst (λ n. In n (group_names hs)) same (y.1 v.0 v.1)))),
+          let u = of_map (named_point p) z ps i in
+          let v = of_map (named_point p) z qs j in
+          let same : v.0.name ≡ u.0.name = ap (λ (n : ElementName). n.name) (sym v.2 ∙ u.2) in
+          apart_across (group_names gs) (group_names hs) u.0.name apart (x.1 u.0 u.1) (subst (λ n. In n (group_names hs)) same (y.1 v.0 v.1)))),
       λ z i. subst (λ l. In z.name l) (sym split) (elim (in_either z ps qs i) as (λ _. In z.name (group_names gs ++ group_names hs)) [
         | inl h ↦ in_left z.name (group_names gs) (group_names hs) (x.1 z h)
         | inr h ↦ in_right z.name (group_names gs) (group_names hs) (y.1 z h)
@@ -205,9 +204,9 @@ module _ (w : Model) (a : NamesApart w) (p : List Step) (c : ClassId) where
       → Apart (names (map (owned_by q) ps)) → Apart (names (elements_in xs)) → Apart (names (map (owned_by q) ps ++ elements_in xs))
   more_once k t q ps xs s f g x y = subst (λ l. Apart l) (sym (map-append name_of (map (owned_by q) ps) (elements_in xs)))
       (apart_append (names (map (owned_by q) ps)) (names (elements_in xs)) x y (λ z i j.
-        let h = in_owned z q ps i in
-        let b = in_elements z xs j in
-        not_later k t xs z.path (Some z.name) s f (subst (λ r. Marks t r (Some z.name)) (sym h.0) (g z.name h.1)) b))
+      let h = in_owned z q ps i in
+      let b = in_elements z xs j in
+      not_later k t xs z.path (Some z.name) s f (subst (λ r. Marks t r (Some z.name)) (sym h.0) (g z.name h.1)) b))
 
   elements_once : (xs : Things) → Sorted xs → AllStand w p c xs → Apart (names (elements_in xs))
   elements_once [] s f = tt
@@ -235,7 +234,7 @@ pub grouped_once : (ss : List Seen) (os : List Owned) → Apart (paths ss) → A
 grouped_once [] os a b = tt
 grouped_once (s ∷ ss) os a b = subst (λ l. Apart l) (sym (map-append name_of (own os s.path) (by_instance ss os)))
     (apart_append (names (own os s.path)) (names (by_instance ss os)) (apart_filter (λ (x : Owned). same_steps x.path s.path) name_of os b) (grouped_once ss os a.1 b)
-      (λ y i j. a.0 (subst (λ q. In q (paths ss)) (own_path os s.path y i) (grouped_path ss os y j))))
+    (λ y i j. a.0 (subst (λ q. In q (paths ss)) (own_path os s.path y i) (grouped_path ss os y j))))
 
 -- ---- what an instance is a part of
 
