@@ -1,10 +1,10 @@
 -- Elements in the order of their instances.
-use Rattle.std.proofs.Common.{◌≡◌, ◌⊎◌, ℕ, zero, suc, ◌+◌, ◌-◌, ◌<◌, ◌≤◌, ◌==◌, Bool, true, false, cond, not, List, [], ◌∷◌, ◌++◌, map, filter, length, Option, Some, None, slice_get, refl, sym, ap, ◌∙◌, subst, arith, inl, inr}
-use Rattle.std.specs.Prelude.{◌&&◌, nat_lt, slice_index_or}
+use Rattle.std.proofs.Common.{◌≡◌, ℕ, zero, suc, ◌+◌, ◌<◌, ◌≤◌, ◌==◌, Bool, false, cond, not, List, [], ◌∷◌, ◌++◌, map, filter, length, Some, slice_get, refl, sym, ap, ◌∙◌, subst, arith, inl, inr}
+use Rattle.std.specs.Prelude.{◌&&◌, slice_index_or}
 use Rattle.std.specs.List.Sorted.{IsNonDecreasingBy, IsStableByKey}
 use Rattle.std.specs.Ordering.{nat_cmp, is_lt}
 use Rattle.std.specs.Cmp.{nat_cmp_is}
-use Rattle.std.specs.declared.cmp.Ordering.TheVariants.{Less, Equal, Greater}
+use Rattle.std.specs.declared.cmp.Ordering.TheVariants.{Less, Equal}
 use Rattle.std.proofs.lemmas.Bool.{eqb-true, eq-eqb, and_right, false≢true}
 use Rattle.std.proofs.lemmas.Option.{get_or_from_slice_get, slice_get_within}
 use Rattle.std.proofs.lemmas.List.{map-append}
@@ -21,7 +21,7 @@ use Rattle.cdl_walk.specs.declared.walked.Element.{Element}
 use Rattle.cdl_walk.specs.declared.walked.Instance.{Instance}
 use Rattle.cdl_walk.specs.declared.walked.Point.{Point}
 use Rattle.cdl_walk.specs.Events.{same_steps}
-use Rattle.cdl_walk.specs.Instances.{Seen, Owned, seen_instance, seen_element, path_in, path_at}
+use Rattle.cdl_walk.specs.Instances.{Owned, seen_instance, seen_element, path_in, path_at}
 use Rattle.cdl_model.specs.Networks.{paths}
 use Rattle.cdl_model.specs.Parts.{own, by_instance}
 use Rattle.cdl_model.proofs.Tests.{steps_tell}

@@ -1,5 +1,5 @@
 -- What the walk found is a model unfolded.
-use Rattle.std.proofs.Common.{◌≡◌, List, [], ◌∷◌, ap, ◌∙◌, inl, inr}
+use Rattle.std.proofs.Common.{List, [], ◌∷◌, ap, ◌∙◌, inl, inr}
 use Rattle.cdl_network.specs.Lists.{In}
 use Rattle.cdl_network.specs.Network.{Wire}
 use Rattle.cdl_params.specs.Kept.{Model}

@@ -1,17 +1,16 @@
 -- The windows of instances, and the net's lists from the walk's.
-use Rattle.std.proofs.Common.{length-append, ◌≡◌, ◌⊎◌, ℕ, zero, suc, ◌+◌, ◌-◌, ◌<◌, ◌≤◌, ◌==◌, Bool, true, false, cond, List, [], ◌∷◌, ◌++◌, map, filter, length, Option, Some, None, slice_get, refl, sym, ap, ◌∙◌, subst, arith, inl, inr}
+use Rattle.std.proofs.Common.{length-append, ◌≡◌, ◌⊎◌, ℕ, zero, suc, ◌+◌, ◌-◌, ◌<◌, ◌≤◌, Bool, true, false, cond, List, [], ◌∷◌, ◌++◌, map, filter, length, Option, Some, None, slice_get, refl, sym, ap, ◌∙◌, subst, arith, inl, inr}
 use Rattle.std.specs.Prelude.{nat_lt, option_map, slice_index_or}
-use Rattle.std.specs.List.Sorted.{IsNonDecreasingBy, IsStableByKey}
-use Rattle.std.specs.Ordering.{nat_cmp}
+use Rattle.std.specs.List.Sorted.{IsNonDecreasingBy}
 use Rattle.std.proofs.lemmas.Bool.{eq-eqb, lt-ltb, le-ltb}
 use Rattle.std.proofs.lemmas.List.{length-map}
 use Rattle.std.proofs.lemmas.List.Sums.{length-filter}
 use Rattle.std.proofs.lemmas.Option.{slice_get_within, slice_get-get_or}
-use Rattle.cdl_source.proofs.Cases.{by_bool, by_lt}
+use Rattle.cdl_source.proofs.Cases.{by_lt}
 use Rattle.cdl_connect.specs.declared.net.Body.{Body}
 use Rattle.cdl_connect.specs.declared.net.NetElement.{NetElement}
 use Rattle.cdl_connect.specs.declared.net.NetInstance.{NetInstance}
-use Rattle.cdl_network.specs.Lists.{In, Apart, count, number}
+use Rattle.cdl_network.specs.Lists.{In, count}
 use Rattle.cdl_network.specs.Network.{Wire}
 use Rattle.cdl_network.proofs.Numbers.{map_twice}
 use Rattle.cdl_network.proofs.Places.{count_is}
@@ -20,8 +19,7 @@ use Rattle.cdl_paths.specs.declared.path.Step.{Step}
 use Rattle.cdl_walk.specs.declared.walked.Element.{Element}
 use Rattle.cdl_walk.specs.declared.walked.Instance.{Instance}
 use Rattle.cdl_walk.specs.declared.walked.Walked.{Walked}
-use Rattle.cdl_walk.specs.Events.{outer, same_steps}
-use Rattle.cdl_walk.specs.Instances.{Seen, Owned, seen_instance, seen_element, path_in, path_at, IsPartOf}
+use Rattle.cdl_walk.specs.Instances.{Owned, seen_instance, seen_element, path_in, path_at, IsPartOf}
 use Rattle.cdl_walk.specs.Texts.{path_text, step_text}
 use Rattle.cdl_model.specs.Names.{ElementName}
 use Rattle.cdl_model.specs.Networks.{parent_path}
@@ -29,7 +27,7 @@ use Rattle.cdl_model.specs.Parts.{own, by_instance}
 use Rattle.cdl_model.specs.NetOf.{body_of, instance_number, net_instance, net_element}
 use Rattle.cdl_expand.specs.Placed.{IsPlaced, instances_seen, elements_seen, unfolded}
 use Rattle.cdl_expand.specs.inner.Numbered.{IsBoundary, at_number, at_numbers, numbered, with_window}
-use Rattle.cdl_expand.proofs.Grouped.{Rises, all_paths, of, own_group, place, rises, sorted_elements, stays, stays_in, unequal}
+use Rattle.cdl_expand.proofs.Grouped.{Rises, of, own_group, place, sorted_elements, stays_in, unequal}
 
 -- ---- places between instances
 
