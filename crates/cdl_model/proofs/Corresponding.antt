@@ -1,5 +1,5 @@
 -- The laws of networks at a model and its net.
-use Rattle.std.proofs.Common.{◌≡◌, ◌+◌, ℕ, Bool, List, [], ◌∷◌, Option, Some, None, slice_get, refl, sym, ap, ◌∙◌, subst, inl, inr}
+use Rattle.std.proofs.Common.{◌≡◌, Bool, List, [], ◌∷◌, Option, Some, None, refl, sym, ap, ◌∙◌, inl, inr}
 use Rattle.std.specs.Prelude.{◌&&◌, map, option_map}
 use Rattle.std.proofs.lemmas.Bool.{and_parts}
 use Rattle.cdl_source.proofs.Cases.{by_bool}
@@ -10,14 +10,14 @@ use Rattle.cdl_connect.specs.WellFormed.{path_in, path_of}
 use Rattle.cdl_kinds.specs.Meanings.{meaning}
 use Rattle.cdl_kinds.specs.Table.{row}
 use Rattle.cdl_values.specs.History.{History}
-use Rattle.std.proofs.Common.{ℤ, true, false}
+use Rattle.std.proofs.Common.{ℤ, true}
 use Rattle.cdl_network.specs.Closed.{Closed, Shaped}
 use Rattle.cdl_network.specs.Dependence.{inputs_of}
 use Rattle.cdl_network.specs.Lists.{In}
-use Rattle.cdl_network.specs.Network.{Network, Wire}
+use Rattle.cdl_network.specs.Network.{Network}
 use Rattle.cdl_network.specs.Planned.{DirectOnly, SameWhere}
 use Rattle.cdl_network.specs.Renamed.{Renamed}
-use Rattle.cdl_network.specs.Rules.{is_inner, is_own, is_sink, is_some_same, is_source}
+use Rattle.cdl_network.specs.Rules.{is_inner, is_sink, is_some_same, is_source}
 use Rattle.cdl_network.proofs.Inside.{kept_true}
 use Rattle.cdl_network.proofs.Rules.{own_same}
 use Rattle.cdl_params.specs.Kept.{Model}
@@ -28,12 +28,12 @@ use Rattle.cdl_walk.specs.declared.walked.Content.TheVariants.{Block, Elementary
 use Rattle.cdl_walk.specs.Events.{same_steps}
 use Rattle.cdl_walk.specs.Stations.{the_root}
 use Rattle.cdl_walk.specs.Texts.{path_text}
-use Rattle.cdl_walk.specs.Instances.{IsThing, Seen, Owned, instances_in, elements_in}
+use Rattle.cdl_walk.specs.Instances.{IsThing, instances_in, elements_in}
 use Rattle.cdl_model.specs.Names.{ElementName}
 use Rattle.cdl_model.specs.Parts.{Unfolding, AreParts, by_instance}
-use Rattle.cdl_model.specs.Networks.{network, paths, names, name_of, content_at, point_at, is_elementary, meaning_of, is_direct, is_input}
+use Rattle.cdl_model.specs.Networks.{network, paths, names, content_at, point_at, meaning_of, is_direct, is_input}
 use Rattle.cdl_model.specs.Apart.{AreApart, AreWires, IsUnfolded}
-use Rattle.cdl_model.specs.NetOf.{NetOf, instance_number, element_number, name_text, net_instance, net_element}
+use Rattle.cdl_model.specs.NetOf.{NetOf, instance_number, element_number, name_text}
 use Rattle.cdl_model.proofs.Tests.{steps_yes, steps_tell, names_tell}
 use Rattle.cdl_model.proofs.Rows.{late_alone}
 use Rattle.cdl_model.proofs.Listed.{parts_apart}

@@ -1,6 +1,6 @@
 -- What stands at a key of a model, and where it has its path from.
-use Rattle.std.proofs.Common.{◌≡◌, ◌⊎◌, ℕ, zero, suc, ◌+◌, ◌<◌, ◌≤◌, Bool, true, false, cond, List, [], ◌∷◌, ◌++◌, map, length, Option, Some, None, Ok, Err, slice_get, refl, sym, ap, ◌∙◌, subst, arith, inl, inr, append_assoc}
-use Rattle.std.proofs.lemmas.List.{append-nil, append_cancel_left, map-append, take_at}
+use Rattle.std.proofs.Common.{◌≡◌, ◌⊎◌, ℕ, ◌<◌, Bool, true, false, cond, List, [], ◌∷◌, ◌++◌, map, Option, Some, None, Ok, Err, slice_get, refl, sym, ap, ◌∙◌, subst, inl, inr, append_assoc}
+use Rattle.std.proofs.lemmas.List.{append-nil, append_cancel_left}
 use Rattle.cdl_values.specs.declared.value.Array.{Array}
 use Rattle.cdl_values.specs.declared.value.Value.{Value}
 use Rattle.cdl_values.specs.declared.value.ValueType.{ValueType}
@@ -22,11 +22,10 @@ use Rattle.cdl_walk.specs.declared.role.Role.{Role}
 use Rattle.cdl_walk.specs.declared.role.Role.TheVariants as role
 use Rattle.cdl_walk.specs.declared.walked.Point.{Point}
 use Rattle.cdl_walk.specs.Elements.{points, point_at, tabulate, indices_at}
-use Rattle.cdl_walk.specs.Events.{outer}
 use Rattle.cdl_walk.specs.Roles.{items_of, role_of}
 use Rattle.cdl_walk.specs.Worth.{present, dims}
 use Rattle.cdl_walk.specs.Stations.{ForItem}
-use Rattle.cdl_walk.specs.Instances.{Thing, Block, Elementary, Elements, elements, plain_units, connector_elements, values, ports_of, IsWorth, IsOfKind, IsPart, IsElement, IsInRole, IsThing, IsInItem}
+use Rattle.cdl_walk.specs.Instances.{Thing, Block, Elementary, Elements, elements, plain_units, connector_elements, values, ports_of, IsWorth, IsOfKind, IsPart, IsElement, IsThing, IsInItem}
 use Rattle.cdl_model.proofs.Joined.{of_tabulate}
 
 -- an element of this name, or the instance itself

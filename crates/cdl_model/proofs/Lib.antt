@@ -8,3 +8,4 @@ pub mod Keyed
 pub mod Unique
 pub mod Listed
 pub mod Corresponding
+pub mod Declaring

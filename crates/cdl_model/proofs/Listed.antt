@@ -1,5 +1,5 @@
 -- Instances and elements of a model stand once, behind what they are of.
-use Rattle.std.proofs.Common.{◌≡◌, ◌⊎◌, ℕ, zero, suc, ◌+◌, ◌-◌, length-append, ◌<◌, ◌≤◌, Bool, true, false, cond, List, [], ◌∷◌, ◌++◌, map, filter, length, Option, Some, None, Ok, Err, refl, sym, ap, ◌∙◌, subst, arith, inl, inr}
+use Rattle.std.proofs.Common.{◌≡◌, ◌⊎◌, ℕ, ◌+◌, ◌-◌, length-append, ◌≤◌, Bool, true, false, cond, List, [], ◌∷◌, ◌++◌, map, length, Some, None, Ok, Err, refl, sym, ap, ◌∙◌, subst, arith, inl, inr}
 use Rattle.std.proofs.lemmas.List.{map-append, take_at}
 use Rattle.cdl_values.specs.declared.value.Array.{Array}
 use Rattle.cdl_values.specs.declared.value.Value.{Value}
@@ -10,18 +10,18 @@ use Rattle.cdl_kinds.specs.declared.kind.Kind.{Kind}
 use Rattle.cdl_kinds.specs.Ports.{nin_or_nout}
 use Rattle.cdl_kinds.specs.Table.{Group, row}
 use Rattle.cdl_network.specs.Lists.{In, Apart}
-use Rattle.cdl_network.proofs.Inside.{in_filter, kept_true}
+use Rattle.cdl_network.proofs.Inside.{kept_true}
 use Rattle.cdl_network.proofs.Renaming.{in_map, of_map}
 use Rattle.cdl_scopes.specs.Lookup.{item_name}
 use Rattle.cdl_classes.specs.declared.found.ClassId.{ClassId}
 use Rattle.cdl_paths.specs.declared.path.Step.{Step}
 use Rattle.cdl_params.specs.Kept.{Model}
-use Rattle.cdl_stations.specs.Keys.{Key, Before, Sorted, Lists, In as InKeys}
+use Rattle.cdl_stations.specs.Keys.{Key, Sorted, Lists, In as InKeys}
 use Rattle.cdl_stations.proofs.Unique.{before_self}
 use Rattle.cdl_walk.specs.declared.role.Part.{Part}
 use Rattle.cdl_walk.specs.declared.role.Part.TheVariants as part
 use Rattle.cdl_walk.specs.declared.walked.Point.{Point}
-use Rattle.cdl_walk.specs.Elements.{points, point_at, port_sizes, indices_at, tabulate}
+use Rattle.cdl_walk.specs.Elements.{points, point_at, port_sizes, indices_at}
 use Rattle.cdl_walk.specs.Events.{outer, same_steps}
 use Rattle.cdl_walk.specs.Stations.{the_root}
 use Rattle.cdl_walk.specs.Instances.{Thing, Block, Elementary, Elements, Seen, Owned, owned_by, plain_units, ports_from, ports_of, IsOfKind, IsPart, IsThing, elements_from, instances_in, elements_in}
@@ -30,10 +30,10 @@ use Rattle.cdl_model.specs.Parts.{Unfolding, AreParts, own, by_instance}
 use Rattle.cdl_model.specs.Networks.{paths, names, name_of, parent_path}
 use Rattle.cdl_model.specs.Apart.{NamesApart, AreApart}
 use Rattle.cdl_model.proofs.Tests.{steps_yes}
-use Rattle.cdl_model.proofs.Joined.{in_left, in_right, in_either, apart_append, apart_left, apart_right, apart_across, apart_filter, apart_tabulate, of_keys, map_map}
+use Rattle.cdl_model.proofs.Joined.{in_left, in_right, in_either, apart_append, apart_left, apart_right, apart_across, apart_filter, apart_tabulate, map_map}
 use Rattle.cdl_model.proofs.Sized.{dims_few, indices_apart}
 use Rattle.cdl_model.proofs.Rows.{group_names, ports_apart}
-use Rattle.cdl_model.proofs.Keyed.{Marks, Mark, Below, OfKind, point_names, step, at_item, below, above, of_kind, block_mark, item_mark, kind_mark, own_points, point_name}
+use Rattle.cdl_model.proofs.Keyed.{Marks, Mark, Below, point_names, step, at_item, below, above, of_kind, block_mark, item_mark, kind_mark, own_points, point_name}
 use Rattle.cdl_model.proofs.Unique.{same_key}
 
 abbrev Things : Type 0

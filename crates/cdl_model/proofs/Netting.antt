@@ -1,24 +1,18 @@
 -- A model and its net are one network under two kinds of names.
-use Rattle.std.proofs.Common.{◌≡◌, ℕ, Bool, true, List, map, length, Option, Some, slice_get, refl, sym, ap, ◌∙◌, subst}
-use Rattle.std.specs.Prelude.{◌-◌, option_map, slice_index_or}
+use Rattle.std.proofs.Common.{◌≡◌, ℕ, List, map, length, Some, slice_get, refl, sym, ap, ◌∙◌, subst}
+use Rattle.std.specs.Prelude.{◌-◌, option_map}
 use Rattle.std.proofs.lemmas.Option.{slice_get-map, get_or_from_slice_get}
 use Rattle.std.proofs.lemmas.List.{length-map}
-use Rattle.cdl_values.specs.declared.value.ValueType.{ValueType}
-use Rattle.cdl_values.specs.History.{Meaning}
-use Rattle.cdl_network.specs.Lists.{In, number, numbers}
-use Rattle.cdl_network.specs.Network.{Wire}
+use Rattle.cdl_network.specs.Lists.{In}
 use Rattle.cdl_network.specs.Renamed.{Renamed, rename_wire}
 use Rattle.cdl_network.proofs.Numbers.{number_apart, number_same, map_twice}
 use Rattle.cdl_network.proofs.Renaming.{in_map, of_map}
 use Rattle.cdl_connect.specs.declared.net.Net.{Net}
 use Rattle.cdl_connect.specs.declared.net.NetElement.{NetElement}
-use Rattle.cdl_connect.specs.declared.net.NetInstance.{NetInstance}
-use Rattle.cdl_connect.specs.declared.net.RawWire.{RawWire}
 use Rattle.cdl_connect.specs.Nets.{network_of, wire_in, element, no_element, parent_of, is_block, is_elementary as is_elementary_in, meaning_at, meaning_of as meaning_in, words_at, words_of as words_in, is_direct_at, is_direct_port}
 use Rattle.cdl_paths.specs.declared.path.Step.{Step}
 use Rattle.cdl_walk.specs.declared.walked.Content.{Content}
 use Rattle.cdl_walk.specs.declared.walked.Content.TheVariants.{Block, Elementary}
-use Rattle.cdl_walk.specs.declared.walked.Point.{Point}
 use Rattle.cdl_walk.specs.Events.{same_steps}
 use Rattle.cdl_walk.specs.Instances.{Seen, Owned}
 use Rattle.cdl_model.specs.Names.{ElementName}

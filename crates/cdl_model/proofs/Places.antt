@@ -1,15 +1,11 @@
 -- Places in lists by names.
-use Rattle.std.proofs.Common.{◌≡◌, ℕ, zero, suc, ◌<◌, Bool, true, false, cond, List, [], ◌∷◌, map, length, Some, slice_get, refl, sym, ap, ◌∙◌, subst, arith, inl, inr}
+use Rattle.std.proofs.Common.{◌≡◌, ℕ, suc, ◌<◌, Bool, true, false, cond, List, [], ◌∷◌, map, length, Some, slice_get, refl, sym, ap, ◌∙◌, subst, inl, inr}
 use Rattle.std.proofs.lemmas.Option.{slice_get_within}
-use Rattle.std.proofs.lemmas.List.{length-map}
 use Rattle.cdl_network.specs.Lists.{Apart, In, Sorted, Tells, number, numbers}
 use Rattle.cdl_network.proofs.Numbers.{numbers_are, slice_number}
-use Rattle.cdl_network.proofs.Renaming.{in_map, of_map}
-use Rattle.cdl_walk.specs.declared.walked.Content.{Content}
-use Rattle.cdl_walk.specs.declared.walked.Point.{Point}
+use Rattle.cdl_network.proofs.Renaming.{in_map}
 use Rattle.cdl_walk.specs.Events.{same_steps}
 use Rattle.cdl_walk.specs.Instances.{Seen, Owned}
-use Rattle.cdl_model.specs.Names.{ElementName}
 use Rattle.cdl_model.specs.Networks.{paths, names, name_of, same_name, content_at, point_at}
 use Rattle.cdl_model.proofs.Tests.{steps_tell, names_tell, differ}
 

@@ -1,5 +1,5 @@
 -- What stands at two keys has two paths, or two names.
-use Rattle.std.proofs.Common.{◌≡◌, ℕ, ◌<◌, List, [], ◌∷◌, ◌++◌, Option, Some, None, Ok, slice_get, refl, sym, ap, ◌∙◌, subst}
+use Rattle.std.proofs.Common.{◌≡◌, ℕ, ◌<◌, List, [], ◌∷◌, ◌++◌, Some, None, Ok, refl, sym, ap, ◌∙◌, subst}
 use Rattle.std.proofs.lemmas.List.{append_cancel_left}
 use Rattle.cdl_values.specs.Values.{items_of as size_of}
 use Rattle.cdl_array.specs.Outcomes.{Outcome}
@@ -12,7 +12,6 @@ use Rattle.cdl_params.specs.Kept.{Model}
 use Rattle.cdl_stations.specs.Keys.{Key}
 use Rattle.cdl_walk.specs.declared.role.Part.{Part}
 use Rattle.cdl_walk.specs.declared.role.Part.TheVariants as part
-use Rattle.cdl_walk.specs.declared.role.Role.{Role}
 use Rattle.cdl_walk.specs.declared.role.Role.TheVariants as role
 use Rattle.cdl_walk.specs.Elements.{indices_at}
 use Rattle.cdl_walk.specs.Roles.{role_of}

@@ -1,5 +1,5 @@
 -- What holds of a model whose names tell, and of its wires.
-use Rattle.std.specs.Prelude.{ℕ, ◌<◌, ◌≤◌, ◌≡◌, ◌⊎◌, false, List, length, Some, slice_get}
+use Rattle.std.specs.Prelude.{ℕ, ◌≤◌, ◌≡◌, ◌⊎◌, false, List, length, Some, slice_get}
 use Rattle.cdl_source.specs.declared.limits.TheConstants.{MOST_WIRES}
 use Rattle.cdl_network.specs.Lists.{In, Apart, number}
 use Rattle.cdl_network.specs.Network.{Wire}

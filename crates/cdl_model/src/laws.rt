@@ -1,5 +1,6 @@
 // A model as a network, and its net.
 ghost use Rattle.std.specs.Prelude.{◌≡◌, ℕ, ℤ, List, [], Option, Some, option_map, map, slice_get};
+ghost use Rattle.cdl_classes.specs.Rules.{broken_10};
 ghost use Rattle.cdl_connect.specs.declared.net.Net.{Net};
 ghost use Rattle.cdl_connect.specs.Nets.{network_of, element};
 ghost use Rattle.cdl_connect.specs.WellFormed.{path_of};
@@ -13,12 +14,18 @@ ghost use Rattle.cdl_network.specs.Rules.{is_source, is_sink, word_count};
 ghost use Rattle.cdl_network.specs.Ticks.{Solves, Tick, Valuation, fault_of};
 ghost use Rattle.cdl_params.specs.Kept.{Model};
 ghost use Rattle.cdl_paths.specs.declared.path.Step.{Step};
+ghost use Rattle.cdl_scopes.specs.Classes.{declared};
 ghost use Rattle.cdl_walk.specs.Texts.{path_text};
 ghost use Rattle.cdl_model.specs.Names.{ElementName};
 ghost use Rattle.cdl_model.specs.Parts.{Unfolding, AreParts};
 ghost use Rattle.cdl_model.specs.Networks.{network, paths, names};
 ghost use Rattle.cdl_model.specs.Apart.{NamesApart, AreApart, IsUnfolded};
 ghost use Rattle.cdl_model.specs.NetOf.{NetOf, instance_number, element_number, name_text};
+
+/// Where C10 is not broken no name is declared twice in a class.
+pub fn declared_names_are_apart()
+    ensures { (w : Model) → broken_10 (declared w.files) ≡ [] → NamesApart w }
+{}
 
 /// The instances and elements of a model are one list each, and where no name is declared twice in a class each of them stands
 /// once, behind what it is of.

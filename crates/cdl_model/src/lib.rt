@@ -5,5 +5,6 @@
 mod laws;
 
 pub use laws::{
-    model_is_a_network, net_is_model, parts_are_one, rules_are_the_nets, solutions_are_the_nets,
+    declared_names_are_apart, model_is_a_network, net_is_model, parts_are_one, rules_are_the_nets,
+    solutions_are_the_nets,
 };
