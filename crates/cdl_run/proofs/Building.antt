@@ -11,7 +11,7 @@ use Rattle.cdl_values.specs.declared.value.Array.{Array}
 use Rattle.cdl_values.specs.declared.value.ValueType.{ValueType}
 use Rattle.cdl_kinds.specs.declared.kind.Kind.{Kind}
 use Rattle.cdl_kinds.specs.Ports.{inputs, outputs}
-use Rattle.cdl_kinds.specs.Meanings.{meaning}
+use Rattle.cdl_kinds.specs.Meanings.{MayLack, meaning}
 use Rattle.cdl_kinds.specs.States.{IsSound, Stands}
 use Rattle.cdl_kinds.specs.StateWords.{state_words}
 use Rattle.cdl_network.specs.Lists.{In, numbers}
