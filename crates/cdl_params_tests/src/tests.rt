@@ -204,8 +204,9 @@ fn chain(alloc: Global, turn: &str, sizes: &str) -> Result<String, Fail> {
         alloc,
         "block N parameter Integer k; end N; block M parameter Integer a0 = 1;",
     )?;
-    for i in 1..71 {
-        let before = format!(in alloc; "a{}", i - 1)?;
+    let mut last: u32 = 0;
+    for i in 1..71u32 {
+        let before = format!(in alloc; "a{last}")?;
         let declared = format!(in alloc; " parameter Integer a{i} = ")?;
         text.push_str(declared.as_str())?;
         for part in turn.split('~') {
@@ -216,6 +217,7 @@ fn chain(alloc: Global, turn: &str, sizes: &str) -> Result<String, Fail> {
             }
         }
         text.push_str(";")?;
+        last = i;
     }
     text.push_str(sizes)?;
     text.push_str(" end M;")?;
