@@ -3,7 +3,7 @@
 
 ghost use Rattle.std.specs.Prelude.{◌≡◌};
 ghost use Rattle.std.specs.Process.{exit_status};
-ghost use Rattle.cdl_command.specs.Outcome.{code_of};
+ghost use Rattle.cdl_job.specs.Outcome.{code_of};
 
 use cdl_command::{Outcome, command};
 use cdl_source::{HostFiles, HostSink};

@@ -1,8 +1,8 @@
 -- The names that are due.
 use Rattle.std.proofs.Common.{◌≡◌, ℕ, List, [], ◌∷◌, Option, Some, None}
 use Rattle.cdl_source.specs.Outside.{DueBeginsWith}
-use Rattle.cdl_command.specs.Job.{Task}
-use Rattle.cdl_command.specs.Outcome.{files_of}
+use Rattle.cdl_job.specs.Job.{Task}
+use Rattle.cdl_job.specs.Outcome.{files_of}
 use Rattle.cdl_command.specs.Answer.{DueOf}
 
 -- Where there is no list, any names may be begun.

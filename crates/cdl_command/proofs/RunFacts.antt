@@ -9,7 +9,7 @@ use Rattle.cdl_scopes.specs.Classes.{declared}
 use Rattle.cdl_flat.specs.Blocks.{Block}
 use Rattle.cdl_table.specs.declared.column.Column.{Column}
 use Rattle.cdl_table.specs.TableRow.{TableRow}
-use Rattle.cdl_command.specs.Job.{Task, RunOf}
+use Rattle.cdl_job.specs.Job.{Task, RunOf}
 use Rattle.cdl_command.specs.Answer.{GrewBySome, OutAfter, IsAt, IsAtSpot, StandsIn}
 use Rattle.cdl_command.specs.inner.Reads.{AreModels}
 use Rattle.cdl_command.specs.Roots.{IsFlatRoot}
@@ -19,10 +19,10 @@ use Rattle.cdl_command.specs.Texts.{Contents, Holds, FirstHold, HaveTrees}
 use Rattle.cdl_command.specs.inner.Ticks.{RunsRows, SomeOfTrace}
 use Rattle.cdl_command.specs.Top.{Works, BeginsInOrder}
 use Rattle.cdl_command.specs.Verdict.{Run, IsRunnable, Verdict, text_rule, class_rule, no_block, not_built, table_rule, ran, model, all_models, the_table}
-use Rattle.cdl_command.specs.declared.outcome.Outcome.{Outcome}
-use Rattle.cdl_command.specs.declared.outcome.Outcome.TheVariants.{Done, Refused, Usage, RangeFault, ReadFault, WriteFault, OutOfMemory}
-use Rattle.cdl_command.specs.declared.outcome.Spot.{Spot}
-use Rattle.cdl_command.specs.declared.outcome.Spot.TheVariants.{Source}
+use Rattle.cdl_job.specs.declared.outcome.Outcome.{Outcome}
+use Rattle.cdl_job.specs.declared.outcome.Outcome.TheVariants.{Done, Refused, Usage, RangeFault, ReadFault, WriteFault, OutOfMemory}
+use Rattle.cdl_job.specs.declared.outcome.Spot.{Spot}
+use Rattle.cdl_job.specs.declared.outcome.Spot.TheVariants.{Source}
 use Rattle.cdl_command.specs.declared.root.Root.{Root}
 use Rattle.cdl_command.specs.declared.stop.Refusal.{Refusal}
 use Rattle.cdl_command.specs.declared.stop.Stop.{Stop}

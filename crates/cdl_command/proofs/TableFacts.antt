@@ -13,7 +13,7 @@ use Rattle.cdl_table.specs.TableRow.{TableRow}
 use Rattle.cdl_command.specs.inner.Stops.{RefusesTable, refusal_of}
 use Rattle.cdl_command.specs.Tables.{HoldsRows, BreaksTable, IsOnlyFirst}
 use Rattle.cdl_command.specs.Texts.{Contents, Holds}
-use Rattle.cdl_command.specs.declared.outcome.Spot.TheVariants.{Cell, Whole}
+use Rattle.cdl_job.specs.declared.outcome.Spot.TheVariants.{Cell, Whole}
 use Rattle.cdl_command.specs.declared.stop.Refusal.{Refusal}
 use Rattle.cdl_command.proofs.ReadFacts.{longer}
 

@@ -18,7 +18,7 @@ use Rattle.cdl_table.specs.declared.trace.TraceError.{TraceError}
 use Rattle.cdl_table.specs.declared.trace.TraceError.TheVariants as trace
 use Rattle.cdl_command.specs.declared.trace.TickStop.{TickStop}
 use Rattle.cdl_command.specs.declared.trace.TickStop.TheVariants as stop
-use Rattle.cdl_command.specs.declared.outcome.Outcome.TheVariants as outcome
+use Rattle.cdl_job.specs.declared.outcome.Outcome.TheVariants as outcome
 
 -- ---- one tick
 

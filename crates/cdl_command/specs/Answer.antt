@@ -6,16 +6,16 @@ use Rattle.cdl_source.specs.declared.rules.TheConstants.{NOT_BUILT}
 use Rattle.cdl_source.specs.Place.{line_of, column_of}
 use Rattle.cdl_flat.specs.Blocks.{Block}
 use Rattle.cdl_table.specs.TableRow.{TableRow}
-use Rattle.cdl_command.specs.Job.{Task, RunOf}
-use Rattle.cdl_command.specs.Outcome.{files_of, models_of}
+use Rattle.cdl_job.specs.Job.{Task, RunOf}
+use Rattle.cdl_job.specs.Outcome.{files_of, models_of}
 use Rattle.cdl_command.specs.Texts.{Contents}
 use Rattle.cdl_command.specs.Tables.{HoldsRows}
 use Rattle.cdl_command.specs.Runs.{IsFront}
 use Rattle.cdl_command.specs.Verdict.{Run, IsRunnable, Verdict, root_path}
-use Rattle.cdl_command.specs.declared.outcome.Outcome.{Outcome}
-use Rattle.cdl_command.specs.declared.outcome.Outcome.TheVariants.{Done, Refused, Usage, RangeFault, ReadFault, WriteFault, OutOfMemory}
-use Rattle.cdl_command.specs.declared.outcome.Spot.{Spot}
-use Rattle.cdl_command.specs.declared.outcome.Spot.TheVariants.{Source}
+use Rattle.cdl_job.specs.declared.outcome.Outcome.{Outcome}
+use Rattle.cdl_job.specs.declared.outcome.Outcome.TheVariants.{Done, Refused, Usage, RangeFault, ReadFault, WriteFault, OutOfMemory}
+use Rattle.cdl_job.specs.declared.outcome.Spot.{Spot}
+use Rattle.cdl_job.specs.declared.outcome.Spot.TheVariants.{Source}
 
 -- The verb `run` is built, and no other.
 abbrev pub built : Task → Option Run

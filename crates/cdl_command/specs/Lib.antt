@@ -1,11 +1,8 @@
-pub mod Job
-pub mod Outcome
 pub mod Texts
 pub mod Roots
 pub mod Tables
 pub mod Runs
 pub mod Verdict
 pub mod Answer
-pub mod Told
 pub mod Top
 pub mod inner

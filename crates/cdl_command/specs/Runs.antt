@@ -5,8 +5,8 @@ use Rattle.cdl_flat.specs.Blocks.{Block}
 use Rattle.cdl_flat.specs.Solution.{Valuation, Solves, NoFault, FirstFault, outputs_in}
 use Rattle.cdl_table.specs.TableRow.{TableRow}
 use Rattle.cdl_table.specs.Trace.{header_text, record_text}
-use Rattle.cdl_command.specs.declared.outcome.Outcome.{Outcome}
-use Rattle.cdl_command.specs.declared.outcome.Outcome.TheVariants.{Done, RangeFault}
+use Rattle.cdl_job.specs.declared.outcome.Outcome.{Outcome}
+use Rattle.cdl_job.specs.declared.outcome.Outcome.TheVariants.{Done, RangeFault}
 
 -- At the tick of this row the block's equations have a solution in which no component has a fault, and the outputs these words.
 pub record Gives (block : Block) (row : TableRow) (words : List ℤ) : Type 0 where

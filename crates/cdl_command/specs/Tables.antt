@@ -8,8 +8,8 @@ use Rattle.cdl_table.specs.IsTable.{IsTable}
 use Rattle.cdl_table.specs.Rows.{table_records}
 use Rattle.cdl_table.specs.TableRow.{TableRow}
 use Rattle.cdl_command.specs.Texts.{Contents, Holds}
-use Rattle.cdl_command.specs.declared.outcome.Spot.{Spot}
-use Rattle.cdl_command.specs.declared.outcome.Spot.TheVariants.{Cell, Whole}
+use Rattle.cdl_job.specs.declared.outcome.Spot.{Spot}
+use Rattle.cdl_job.specs.declared.outcome.Spot.TheVariants.{Cell, Whole}
 
 -- the text is a table of these inputs with these rows
 abbrev pub IsTableText : List Column → List ℕ → List TableRow → Type 0

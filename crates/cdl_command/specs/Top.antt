@@ -1,13 +1,13 @@
 -- What the top call and the work of a job leave.
 use Rattle.std.specs.Prelude.{◌≡◌, ◌⊎◌, ℕ, ◌+◌, List, Option, MatchOption}
-use Rattle.cdl_command.specs.Job.{Task}
-use Rattle.cdl_command.specs.Outcome.{usage_text}
+use Rattle.cdl_job.specs.Job.{Task}
+use Rattle.cdl_job.specs.Outcome.{usage_text}
 use Rattle.cdl_command.specs.Texts.{Contents}
 use Rattle.cdl_command.specs.Verdict.{InOrder}
 use Rattle.cdl_command.specs.Answer.{built, OutAfter, IsAt}
-use Rattle.cdl_command.specs.Told.{Tells, Reports}
-use Rattle.cdl_command.specs.declared.outcome.Outcome.{Outcome}
-use Rattle.cdl_command.specs.declared.outcome.Outcome.TheVariants.{Usage, ReadFault, WriteFault}
+use Rattle.cdl_job.specs.Told.{Tells, Reports}
+use Rattle.cdl_job.specs.declared.outcome.Outcome.{Outcome}
+use Rattle.cdl_job.specs.declared.outcome.Outcome.TheVariants.{Usage, ReadFault, WriteFault}
 use Rattle.cdl_command.specs.declared.stop.Ended.{Ended}
 
 -- A job begins files in the order of work, and none where its verb isn't built.

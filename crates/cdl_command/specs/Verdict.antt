@@ -15,10 +15,10 @@ use Rattle.cdl_command.specs.Texts.{Contents, Holds, FirstHold, HaveTrees, Break
 use Rattle.cdl_command.specs.Roots.{IsRoot, IsFlatRoot, flat_root}
 use Rattle.cdl_command.specs.Tables.{HoldsRows, BreaksTable}
 use Rattle.cdl_command.specs.Runs.{Ends}
-use Rattle.cdl_command.specs.declared.outcome.Outcome.{Outcome}
-use Rattle.cdl_command.specs.declared.outcome.Outcome.TheVariants.{Refused}
-use Rattle.cdl_command.specs.declared.outcome.Spot.{Spot}
-use Rattle.cdl_command.specs.declared.outcome.Spot.TheVariants.{Source, Path}
+use Rattle.cdl_job.specs.declared.outcome.Outcome.{Outcome}
+use Rattle.cdl_job.specs.declared.outcome.Outcome.TheVariants.{Refused}
+use Rattle.cdl_job.specs.declared.outcome.Spot.{Spot}
+use Rattle.cdl_job.specs.declared.outcome.Spot.TheVariants.{Source, Path}
 
 -- a run of a class over a table
 pub record Run : Type 0 where

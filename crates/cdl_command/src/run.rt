@@ -3,16 +3,16 @@ ghost use Rattle.std.specs.Prelude.{◌≡◌, ◌≤◌, ◌<◌, ◌^◌, ◌�
 ghost use Rattle.std.specs.Io.KnownBytes.{IsAtEnd};
 ghost use Rattle.cdl_source.specs.Causes.{Rose};
 ghost use Rattle.cdl_source.specs.Outside.{DueBeginsWith};
-ghost use Rattle.cdl_command.specs.Job.{RunOf};
+ghost use Rattle.cdl_job.specs.Job.{RunOf};
 ghost use Rattle.cdl_command.specs.Top.{Works};
-ghost use Rattle.cdl_command.specs.declared.outcome.Outcome.{Outcome};
+ghost use Rattle.cdl_job.specs.declared.outcome.Outcome.{Outcome};
 
-use crate::outcome::Outcome;
 use crate::root::{flat_of, root_of};
 use crate::stop::{Ended, plain_end, stopped};
 use crate::table::read_table;
 use crate::texts::{Models, read_models};
 use crate::trace::write_trace;
+use cdl_job::Outcome;
 use cdl_source::{Files, MOST_MODELS, Sink};
 use std::alloc::Global;
 

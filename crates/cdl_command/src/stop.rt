@@ -3,7 +3,7 @@ ghost use Rattle.std.specs.Prelude.{◌≡◌, ◌≤◌, ◌⊎◌, length, tak
 ghost use Rattle.cdl_command.specs.inner.Stops.{refusal_of, refusal_at, plain_end, ended_of};
 ghost use Rattle.cdl_command.specs.Verdict.{root_path};
 
-use crate::outcome::{Outcome, Spot};
+use cdl_job::{Outcome, Spot};
 use cdl_source::{LONGEST_MODEL, OutOfMemory, Place, Text, line_column};
 use std::alloc::Global;
 

@@ -7,8 +7,8 @@ ghost use Rattle.cdl_table.specs.Values.{HaveValues};
 ghost use Rattle.cdl_command.specs.inner.Stops.{FaultIsAnswered, Stops, RefusesTable};
 ghost use Rattle.cdl_command.specs.Tables.{HoldsRows};
 
-use crate::outcome::Spot;
 use crate::stop::{Stop, refusal_of};
+use cdl_job::Spot;
 use cdl_source::rules::TABLE_TOO_LONG;
 use cdl_source::{Files, LONGEST_TABLE, List, ReadError, read_whole};
 use cdl_table::{Column, Table, TableFault};

@@ -3,16 +3,14 @@ ghost use Rattle.std.specs.Prelude.{◌≡◌, ◌≢◌, ◌⊎◌, ◌^◌, �
 ghost use Rattle.std.specs.Io.KnownBytes.{IsAtEnd};
 ghost use Rattle.cdl_source.specs.Causes.{Rose};
 ghost use Rattle.cdl_source.specs.Outside.{DueBeginsWith};
-ghost use Rattle.cdl_command.specs.Job.{task_of, task_of_job};
-ghost use Rattle.cdl_command.specs.Outcome.{files_of, HasFewModels};
+ghost use Rattle.cdl_job.specs.Job.{task_of, task_of_job};
+ghost use Rattle.cdl_job.specs.Outcome.{files_of, HasFewModels};
 ghost use Rattle.cdl_command.specs.Answer.{DueOf, Result};
 ghost use Rattle.cdl_command.specs.Top.{Works, OutAfterWords, ErrAfterWords, BegunFor};
 
-use crate::job::{self, Job};
-use crate::outcome::Outcome;
-use crate::report::{report, usage};
 use crate::run::run;
 use crate::stop::{Ended, refused_root, stopped};
+use cdl_job::{Job, Outcome, report, usage, words as job_of};
 use cdl_source::rules::NOT_BUILT;
 use cdl_source::{Files, Sink};
 use std::alloc::Global;
@@ -64,7 +62,7 @@ pub fn command<F: Files, O: Sink, E: Sink>(
     ensures err { ErrAfterWords (task_of (map string_bytes words.now)) (F.contents files.old) result (O.written out.old) (O.written out.new)
         (E.written err.old) (E.written err.new) (Rose (E.faults err.old) (E.faults err.new)) }
 {
-    match job::words(words) {
+    match job_of(words) {
         None => usage(err),
         Some(job) => {
             let Ended {

@@ -7,8 +7,8 @@ ghost use Rattle.cdl_command.specs.inner.Ticks as spec;
 ghost use Rattle.cdl_command.specs.inner.Ticks.{FaultIsAnswered, WroteTick, CutsTick, WroteRows, CutsRows, RunsRows};
 ghost use Rattle.cdl_command.specs.Runs.{path_of};
 
-use crate::outcome::Outcome;
 use cdl_flat::{Flat, RangeFault, Runner};
+use cdl_job::Outcome;
 use cdl_kinds::Steps;
 use cdl_source::{OutOfMemory, Sink, Text};
 use cdl_table::{Table, TraceError, TraceWriter};

@@ -1,6 +1,10 @@
 // What holds of the nets of the examples.
-ghost use Rattle.std.specs.Prelude.{◌≡◌};
+ghost use Rattle.std.specs.Prelude.{◌≡◌, ℕ, List, []};
+ghost use Rattle.cdl_network.specs.Dependence.{NoLoop};
+ghost use Rattle.cdl_network.specs.Planned.{AgreeAll};
+ghost use Rattle.cdl_network.specs.Ticks.{Solves, Tick, Valuation};
 ghost use Rattle.cdl_connect.specs.Faults.{IsUnbroken};
+ghost use Rattle.cdl_connect.specs.Nets.{network_of};
 ghost use Rattle.cdl_connect.specs.WellFormed.{IsWellFormed};
 ghost use Rattle.cxf_graph.specs.Document.{document};
 ghost use Rattle.cxf_graph.specs.Reading.{IsGraphOf};
@@ -16,6 +20,13 @@ pub fn negation_is_well_formed()
     ensures unbroken { IsUnbroken negation }
     ensures graph { graph_of negation ≡ negation_graph }
     ensures read_back { IsGraphOf (document (graph_of negation)) (graph_of negation) }
+{}
+
+/// A law: nothing in the net of a block that negates its input is on a loop, so exactly one list of valuations solves it for each
+/// list of ticks.
+pub fn negation_has_one_solution()
+    ensures no_loop { NoLoop (network_of negation) }
+    ensures solution { (ts : List Tick) → (vs : List (Valuation ℕ)) × Solves (network_of negation) [] ts vs × ((ws : List (Valuation ℕ)) → Solves (network_of negation) [] ts ws → AgreeAll (network_of negation) ws vs) }
 {}
 
 /// A law: the net of a block that negates two inputs, with arrays of connectors and of parts, is well formed and breaks no rule of

@@ -3,4 +3,6 @@
 
 mod examples;
 
-pub use examples::{negation_is_well_formed, pair_is_well_formed, spoiled_are_not};
+pub use examples::{
+    negation_has_one_solution, negation_is_well_formed, pair_is_well_formed, spoiled_are_not,
+};

@@ -1,31 +1,56 @@
 // Whether the numbers of a net are good, found by looking at each of them.
-ghost use Rattle.std.specs.Prelude.{◌≡◌, ◌+◌, ◌<◌, ◌≤◌, ◌==◌, ◌&&◌, ℕ, nat_le, nat_lt, true, false, length, IfSome, Some, slice_get};
+ghost use Rattle.std.specs.Prelude.{◌≡◌, ◌+◌, ◌<◌, ◌≤◌, ℕ, true, false, length, IfSome, Some, slice_get};
 ghost use Rattle.cdl_connect.specs.declared.net.RawWire.{RawWire as RawWireOf};
 ghost use Rattle.cdl_connect.specs.declared.net.NetInstance.{NetInstance as NetInstanceOf};
 ghost use Rattle.cdl_connect.specs.Nets.{element, is_block};
 ghost use Rattle.cdl_connect.specs.WellFormed.{IsIndexed};
-ghost use Rattle.cdl_net_tests.specs.Fine.{AreBefore, IsFineElement, IsFineInstance, IsFineWire, Owns};
+ghost use Rattle.cdl_net_tests.specs.Fine.{AreOwn, AreRising, Begins, Ends, Follows, IsFineInstance, IsFineWire, Owns};
 
 use cdl_connect::{Body, Net, NetInstance, RawWire};
 use cdl_source::{MOST_ELEMENTS, MOST_INSTANCES, MOST_WIRES};
 
-fn is_in_window(t: &NetInstance, x: usize) -> bool
-    ensures { result ≡ (nat_le t.now.first x && nat_lt x (t.now.first + t.now.count)) }
-{
-    t.first as usize <= x && x < t.first as usize + t.count as usize
-}
-
-fn owns(net: &Net, i: usize, t: &NetInstance) -> bool
-    ensures { result ≡ true → Owns net.now i t.now (length net.now.elements) }
+// Whether these elements are all the instance's.
+fn are_own(net: &Net, i: usize, first: usize, end: usize) -> bool
+    requires order { first ≤ end }
+    requires within { end ≤ length net.now.elements }
+    ensures { result ≡ true → AreOwn net.now i first end }
 {
     let elements = net.elements.items();
-    for x in 0..elements.len() {
-        let own = elements[x].instance as usize == i;
-        if own != is_in_window(t, x) {
+    for x in first..end {
+        if elements[x].instance as usize != i {
             return false;
         }
     }
     true
+}
+
+// Whether the element before that place, if there is one, is of an earlier instance.
+fn begins(net: &Net, i: usize, first: usize) -> bool
+    requires { first ≤ length net.now.elements }
+    ensures { result ≡ true → Begins net.now i first }
+{
+    first == 0 || (net.elements.items()[first - 1].instance as usize) < i
+}
+
+// Whether the element in that place, if there is one, is of a later instance.
+fn ends(net: &Net, i: usize, end: usize) -> bool
+    requires { end ≤ length net.now.elements }
+    ensures { result ≡ true → Ends net.now i end }
+{
+    let elements = net.elements.items();
+    end == elements.len() || elements[end].instance as usize > i
+}
+
+// Whether the window has the instance's elements and no others. Elements stand by instance, so its neighbours tell.
+#[tactic(auto, using(crate::proofs::Indexing::owns_of))]
+fn owns(net: &Net, i: usize, t: &NetInstance) -> bool
+    requires within { t.now.first + t.now.count ≤ length net.now.elements }
+    requires rising { AreRising net.now (length net.now.elements) }
+    ensures { result ≡ true → Owns net.now i t.now }
+{
+    let first = t.first as usize;
+    let end = first + t.count as usize;
+    begins(net, i, first) && ends(net, i, end) && are_own(net, i, first, end)
 }
 
 fn is_fine_parent(net: &Net, t: &NetInstance) -> bool
@@ -38,6 +63,7 @@ fn is_fine_parent(net: &Net, t: &NetInstance) -> bool
 }
 
 fn is_fine_instance(net: &Net, i: usize, t: &NetInstance) -> bool
+    requires { AreRising net.now (length net.now.elements) }
     ensures { result ≡ true → IsFineInstance net.now i t.now }
 {
     let within = t.first as usize + t.count as usize <= net.elements.items().len();
@@ -45,6 +71,7 @@ fn is_fine_instance(net: &Net, i: usize, t: &NetInstance) -> bool
 }
 
 fn are_fine_instances(net: &Net) -> bool
+    requires { AreRising net.now (length net.now.elements) }
     ensures { result ≡ true → (i : ℕ) (t : NetInstanceOf) → i < length net.now.instances → slice_get net.now.instances i ≡ Some t → IsFineInstance net.now i t }
 {
     let instances = net.instances.items();
@@ -56,26 +83,34 @@ fn are_fine_instances(net: &Net) -> bool
     true
 }
 
-fn are_before(net: &Net, i: u32, k: usize) -> bool
-    requires { k ≤ length net.now.elements }
-    ensures { result ≡ true → AreBefore net.now i k }
+fn are_owned(net: &Net) -> bool
+    ensures { result ≡ true → (x : ℕ) → x < length net.now.elements → (element net.now x).instance < length net.now.instances }
 {
     let elements = net.elements.items();
-    for x in 0..k {
-        if elements[x].instance > i {
+    for x in 0..elements.len() {
+        if elements[x].instance as usize >= net.instances.items().len() {
             return false;
         }
     }
     true
 }
 
-fn are_fine_elements(net: &Net) -> bool
-    ensures { result ≡ true → (x : ℕ) → x < length net.now.elements → IsFineElement net.now x }
+// Whether the element is of no earlier instance than the one before it.
+fn follows(net: &Net, x: usize) -> bool
+    requires { x < length net.now.elements }
+    ensures { result ≡ true → Follows net.now x }
 {
     let elements = net.elements.items();
-    for x in 0..elements.len() {
-        let owner = elements[x].instance;
-        if owner as usize >= net.instances.items().len() || !are_before(net, owner, x) {
+    x == 0 || elements[x - 1].instance <= elements[x].instance
+}
+
+// Whether elements stand by instance.
+#[tactic(auto, using(crate::proofs::Indexing::rising_more))]
+fn are_rising(net: &Net) -> bool
+    ensures { result ≡ true → AreRising net.now (length net.now.elements) }
+{
+    for x in 0..net.elements.items().len() {
+        if !follows(net, x) {
             return false;
         }
     }
@@ -121,11 +156,13 @@ fn are_few(net: &Net) -> bool
 
 /// The net, where its numbers are good.
 pub fn indexed(net: Net) -> Option<Net>
-    ensures { IfSome result (λ n. IsIndexed n) }
+    ensures same { IfSome result (λ n. n ≡ net) }
+    ensures good { IfSome result (λ n. IsIndexed n) }
 {
     if are_few(&net)
+        && are_owned(&net)
+        && are_rising(&net)
         && are_fine_instances(&net)
-        && are_fine_elements(&net)
         && are_fine_wires(&net)
     {
         Some(net)

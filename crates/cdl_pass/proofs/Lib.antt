@@ -3,3 +3,4 @@ pub mod Ready
 pub mod Passing
 pub mod Absorbing
 pub mod Running
+pub mod Lacking

@@ -90,7 +90,7 @@ typed_start = record {
 }
 
 -- the lesser of those found so far and the next
-lesser_le : (least : Option ℕ) (j : ℕ) → (l : ℕ) × (lesser_of least j ≡ Some l) × (l ≤ j) × ((o : ℕ) → least ≡ Some o → l ≤ o) × ((l ≡ j) ⊎ (least ≡ Some l))
+pub lesser_le : (least : Option ℕ) (j : ℕ) → (l : ℕ) × (lesser_of least j ≡ Some l) × (l ≤ j) × ((o : ℕ) → least ≡ Some o → l ≤ o) × ((l ≡ j) ⊎ (least ≡ Some l))
 lesser_le None j = (j, refl, omega arith, λ o e. absurd (none-some o e), inl refl)
 lesser_le (Some o) j = by_lt j o
     (λ h. let f : nat_le o j ≡ false = lt-leb o j h in
@@ -99,7 +99,7 @@ lesser_le (Some o) j = by_lt j o
     (o, rw f refl, h, λ x e. let q : o ≡ x = cc in omega arith, inr refl))
 
 -- the words that a later step leaves
-kept_words : {B : Type 0} {n : Net B} (i : ℕ) (v u : Valuation) (o : Action) → Planned n → slice_get n.actions i ≡ Some o → ((e : ℕ) → (Writes n.ps o e → ⊥) → u e ≡ v e) → (q : ℕ) (c : Action) (e : ℕ) → q < i → slice_get n.actions q ≡ Some c → Writes n.ps c e → v e ≡ u e
+pub kept_words : {B : Type 0} {n : Net B} (i : ℕ) (v u : Valuation) (o : Action) → Planned n → slice_get n.actions i ≡ Some o → ((e : ℕ) → (Writes n.ps o e → ⊥) → u e ≡ v e) → (q : ℕ) (c : Action) (e : ℕ) → q < i → slice_get n.actions q ≡ Some c → Writes n.ps c e → v e ≡ u e
 kept_words i v u o pl is oth q c e l h w = sym (oth e (λ z. pl.once q i c o e l h is w z))
 
 pub stable : {B : Type 0} {n : Net B} (i : ℕ) (v u : Valuation) (o : Action) → Planned n → slice_get n.actions i ≡ Some o → ((e : ℕ) → (Writes n.ps o e → ⊥) → u e ≡ v e) → (q : ℕ) (c : Action) (e : ℕ) → q < i + 1 → slice_get n.actions q ≡ Some c → Reads n.ps c e → v e ≡ u e

@@ -1,5 +1,5 @@
 -- A window that was written, and the words around it.
-use Rattle.std.proofs.Common.{ℕ, ◌+◌, ◌≤◌, ◌≡◌, refl, sym, ap, ◌∙◌, ℤ, List, ◌++◌, length, take, drop, arith, append_assoc, length-take, take-append-drop, Option, Some, None, Result, MatchResult}
+use Rattle.std.proofs.Common.{ℕ, ◌+◌, ◌≤◌, ◌≡◌, refl, sym, ap, ◌∙◌, ℤ, List, ◌++◌, length, take, drop, arith, append_assoc, length-take, take-append-drop, Option, Some, None, Result, MatchResult, OnErr}
 use Rattle.std.proofs.lemmas.List.{take-take, drop-drop, take_at, drop_at, drop-take}
 use Rattle.std.proofs.Math.Seq.{drop-append-le}
 use Rattle.cdl_pass.specs.Windows.{Lies, OnlyOuts, OnlyState, ins_of, outs_of, state_of}
@@ -58,6 +58,10 @@ ins_there p w e f k l he hf hk =
 -- what a block gave, at equal arguments
 pub moved : {X E : Type 0} (m : ℤ → List ℤ → Option (List ℤ)) (r : Result X E) (t t' : ℤ) (x x' o o' : List ℤ) → t' ≡ t → x' ≡ x → o' ≡ o → MatchResult r (λ _. m t' x' ≡ Some o') (λ _. m t' x' ≡ None) → MatchResult r (λ _. m t x ≡ Some o) (λ _. m t x ≡ None)
 moved m r t t' x x' o o' p q s k = rw (← p, ← q, ← s) k
+
+-- what holds where a block gave nothing, at equal arguments
+pub lacking : {X E : Type 0} (P : ℤ → List ℤ → Type 0) (r : Result X E) (t t' : ℤ) (x x' : List ℤ) → t' ≡ t → x' ≡ x → OnErr r (P t' x') → OnErr r (P t x)
+lacking P r t t' x x' p q k = rw (← p, ← q) k
 
 -- the region after the state of an instance was written
 pub only_state : (p : Node) (w e s o : List ℤ) → Lies p (length w) → e ≡ take p.state w → s ≡ drop p.state w → length o ≡ p.width → OnlyState p w (e ++ (o ++ drop p.width s)) × (state_of p (e ++ (o ++ drop p.width s)) ≡ o)

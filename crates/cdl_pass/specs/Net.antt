@@ -14,9 +14,10 @@ pub record Blocks (B : Type 0) : Type 1 where
   pub meaning : B → History → ℤ → List ℤ → Option (List ℤ)
   pub stands : B → List ℤ → History → Type 0
   pub sound : B → List ℤ → ℤ → Type 0
+  pub may_lack : B → ℤ → List ℤ → Type 0
 
-abbrev pub blocks_of : {B : Type 0} → (B → Signature) → (B → Signature) → (B → ℕ) → (B → History → ℤ → List ℤ → Option (List ℤ)) → (B → List ℤ → History → Type 0) → (B → List ℤ → ℤ → Type 0) → Blocks B
-blocks_of i r w m s d = record { inputs = i; results = r; width = w; meaning = m; stands = s; sound = d }
+abbrev pub blocks_of : {B : Type 0} → (B → Signature) → (B → Signature) → (B → ℕ) → (B → History → ℤ → List ℤ → Option (List ℤ)) → (B → List ℤ → History → Type 0) → (B → List ℤ → ℤ → Type 0) → (B → ℤ → List ℤ → Type 0) → Blocks B
+blocks_of i r w m s d l = record { inputs = i; results = r; width = w; meaning = m; stands = s; sound = d; may_lack = l }
 
 -- `kinds` has the type of each element, `rows` that of each root input
 pub record Net (B : Type 0) : Type 0 where

@@ -123,3 +123,36 @@ pub record Passed {B : Type 0} (m : Blocks B) (n : Net B) (now : ℤ) (row : Lis
   pub solved : (q : ℕ) (o : Action) → q < i → slice_get n.actions q ≡ Some o → Meets m n now row r v o
   pub is : (j : ℕ) → least ≡ Some j → (q : ℕ) × (q < i) × (slice_get n.actions q ≡ Some (Action.Emit j)) × Fault m n now r v j
   pub each : (q j : ℕ) → q < i → slice_get n.actions q ≡ Some (Action.Emit j) → Fault m n now r v j → (l : ℕ) × (least ≡ Some l) × (l ≤ j)
+
+-- An instance gives no value at words that no history need stand for: its direct inputs have values, its outputs have none, and its block may have none with inputs that have the words of the direct ones.
+pub record Lack {B : Type 0} (m : Blocks B) (n : Net B) (now : ℤ) (v : Valuation) (j : ℕ) : Type 0 where
+  pub block : B
+  pub node : Node
+  pub block_is : slice_get n.bs j ≡ Some block
+  pub node_is : slice_get n.ps j ≡ Some node
+  pub ready : ready v node.ins node.reads ≡ true
+  pub none : (k : ℕ) → k < node.nout → v (node.outs + k) ≡ no_value
+  pub ins : List ℤ
+  pub size : length ins ≡ node.nin
+  pub direct : (i : ℕ) → i < node.reads → word ins i ≡ v (node.ins + i)
+  pub may : m.may_lack block now ins
+
+-- where its direct inputs have values, its outputs have
+abbrev pub Answers : {B : Type 0} → Net B → Valuation → ℕ → Type 0
+Answers n v j = (p : Node) → slice_get n.ps j ≡ Some p → ready v p.ins p.reads ≡ true → (k : ℕ) → k < p.nout → IsValue (sort_at n.kinds (p.outs + k)) (v (p.outs + k))
+
+-- whether the instance of a step gives no value
+abbrev pub LackIs : {B : Type 0} → Blocks B → Net B → ℤ → Valuation → Bool → Action → Type 0
+LackIs m n now v f (Action.Input i t) = f ≡ false
+LackIs m n now v f (Action.Copy s t) = f ≡ false
+LackIs m n now v f (Action.Emit j) = (f ≡ true → Lack m n now v j) × (f ≡ false → Answers n v j)
+
+-- the first in preorder that gives no value
+pub record FirstLack {B : Type 0} (m : Blocks B) (n : Net B) (now : ℤ) (v : Valuation) (j : ℕ) : Type 0 where
+  pub is : Lack m n now v j
+  pub before : (i : ℕ) → i < j → Answers n v i
+
+-- after the first steps
+pub record Tried {B : Type 0} (m : Blocks B) (n : Net B) (now : ℤ) (i : ℕ) (v : Valuation) (least : Option ℕ) : Type 0 where
+  pub is : (j : ℕ) → least ≡ Some j → (q : ℕ) × (q < i) × (slice_get n.actions q ≡ Some (Action.Emit j)) × Lack m n now v j
+  pub each : (q j : ℕ) → q < i → slice_get n.actions q ≡ Some (Action.Emit j) → Answers n v j ⊎ ((l : ℕ) × (least ≡ Some l) × (l ≤ j))

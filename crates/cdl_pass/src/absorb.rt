@@ -22,14 +22,14 @@ pub(crate) fn absorb_all<B: Elementary>(
     words: &mut [i64],
     now: i64,
 )
-    requires laid { Laid (blocks_of B.inputs B.results B.width B.meaning B.stands B.is_sound) (net_of blocks.now nodes.now _actions.now _kinds.now _rows.now) (length words.old) }
+    requires laid { Laid (blocks_of B.inputs B.results B.width B.meaning B.stands B.is_sound B.may_lack) (net_of blocks.now nodes.now _actions.now _kinds.now _rows.now) (length words.old) }
     requires time { IsTime now }
     requires values { (e : ℕ) → e < length _kinds.now → IsValue (sort_at _kinds.now e) (word words.old e) }
     requires sound { (last : ℤ) × (last <ℤ now) × AllAt (net_of blocks.now nodes.now _actions.now _kinds.now _rows.now) (λ j b p. B.is_sound b (state_of p words.old) last) }
     ensures size { length words.new ≡ length words.old }
     ensures kept { take (length _kinds.now) words.new ≡ take (length _kinds.now) words.old }
     ensures sound { AllAt (net_of blocks.now nodes.now _actions.now _kinds.now _rows.now) (λ j b p. B.is_sound b (state_of p words.new) now) }
-    ensures stands { (r : Past) → MayAbsorb (blocks_of B.inputs B.results B.width B.meaning B.stands B.is_sound) (net_of blocks.now nodes.now _actions.now _kinds.now _rows.now) now r words.old → AllAt (net_of blocks.now nodes.now _actions.now _kinds.now _rows.now) (λ j b p. B.stands b (state_of p words.new) (longer now r j p words.old)) }
+    ensures stands { (r : Past) → MayAbsorb (blocks_of B.inputs B.results B.width B.meaning B.stands B.is_sound B.may_lack) (net_of blocks.now nodes.now _actions.now _kinds.now _rows.now) now r words.old → AllAt (net_of blocks.now nodes.now _actions.now _kinds.now _rows.now) (λ j b p. B.stands b (state_of p words.new) (longer now r j p words.old)) }
 {
     for i in 0..nodes.len() {
         absorb_one(&blocks[i], &nodes[i], words, now);

@@ -1,6 +1,6 @@
 // One block over the region.
 
-ghost use Rattle.std.specs.Prelude.{◌≡◌, ℕ, ◌+◌, ℤ, length, replicate, MatchResult, OnOk, Some, None, ◌∷◌, ◌<ℤ◌};
+ghost use Rattle.std.specs.Prelude.{◌≡◌, ℕ, ◌+◌, ℤ, length, replicate, MatchResult, OnErr, OnOk, Some, None, ◌∷◌, ◌<ℤ◌};
 ghost use Rattle.cdl_values.specs.History.{History, Tick, IsTime, IsLater, IsHistory, AreReady, AreValues, no_value, tick};
 ghost use Rattle.cdl_pass.specs.Windows.{ins_of, outs_of, state_of, Lies, OnlyOuts, OnlyState};
 
@@ -27,6 +27,7 @@ pub fn emit_one<B: Elementary, L: Ledger>(
     ensures only { OnlyOuts node.now words.old words.new }
     ensures size { length words.new ≡ length words.old }
     ensures typed { OnOk result (AreValues (B.results block.now) (outs_of node.now words.new)) }
+    ensures lacks { OnErr result (B.may_lack block.now now (ins_of node.now words.old)) }
     ensures gives { (h : History) → IsHistory (B.inputs block.now) (B.meaning block.now) h → IsLater now h → B.stands block.now (state_of node.now words.old) h → MatchResult result (λ _. B.meaning block.now h now (ins_of node.now words.old) ≡ Some (outs_of node.now words.new)) (λ _. B.meaning block.now h now (ins_of node.now words.old) ≡ None) }
 {
     let (elements, states) = words.split_at_mut(node.state);

@@ -2,11 +2,11 @@
 
 ghost use Rattle.std.specs.Prelude.{◌≡◌, Bool, ℕ, ◌+◌, ◌<◌, ◌≤◌, ℤ, length, OnOk, Some, None, true, false, drop, cond, IsNone, IsSome, ◌<ℤ◌, slice_get, IfSome};
 ghost use Rattle.cdl_values.specs.declared.value.ValueType.{ValueType};
-ghost use Rattle.cdl_values.specs.History.{History, IsTime, IsLater, IsHistory, IsValue, word};
+ghost use Rattle.cdl_values.specs.History.{History, IsTime, IsLater, IsHistory, IsValue, no_value, word};
 ghost use Rattle.cdl_pass.specs.declared.net.Action.{Action};
-ghost use Rattle.cdl_pass.specs.Windows.{state_of};
+ghost use Rattle.cdl_pass.specs.Windows.{ins_of, state_of};
 ghost use Rattle.cdl_pass.specs.Net.{blocks_of, net_of, sort_at, AllAt, Fits, Laid, Planned, Reads, Writes, Names};
-ghost use Rattle.cdl_pass.specs.Tick.{is_none, ready, given, has_fault, out_word, IsTyped, Past, Starts, Gives, FaultIs, RowOf, FirstFault, NoFault, Solves, Valuation, lesser, lesser_of, lacks, spent, spent_in};
+ghost use Rattle.cdl_pass.specs.Tick.{is_none, ready, given, has_fault, out_word, IsTyped, Past, Starts, Gives, FaultIs, RowOf, FirstFault, FirstLack, LackIs, NoFault, Solves, Valuation, lesser, lesser_of, lacks, spent, spent_in};
 
 use crate::net::{Action, Node};
 use crate::one::{blank, emit_one};
@@ -54,7 +54,7 @@ fn emit_strict<B: Elementary, L: Ledger>(
     now: i64,
     steps: &mut Steps<L>,
 ) -> bool
-    requires fits { Fits (blocks_of B.inputs B.results B.width B.meaning B.stands B.is_sound) _kinds.now (length words.old) block.now node.now }
+    requires fits { Fits (blocks_of B.inputs B.results B.width B.meaning B.stands B.is_sound B.may_lack) _kinds.now (length words.old) block.now node.now }
     requires time { IsTime now }
     requires typed { (e : ℕ) → node.now.ins ≤ e → e < node.now.ins + node.now.reads → IsTyped _kinds.now (word words.old) e }
     requires whole { whole ≡ true → ready (word words.old) node.now.ins node.now.reads ≡ true }
@@ -66,8 +66,12 @@ fn emit_strict<B: Elementary, L: Ledger>(
     ensures states { drop (length _kinds.now) words.new ≡ drop (length _kinds.now) words.old }
     ensures typed { (k : ℕ) → k < node.now.nout → IsTyped _kinds.now (word words.new) (node.now.outs + k) }
     ensures values { whole ≡ true → result ≡ false → (k : ℕ) → k < node.now.nout → IsValue (sort_at _kinds.now (node.now.outs + k)) (word words.new (node.now.outs + k)) }
-    ensures gives { (h : History) → IsHistory (B.inputs block.now) (B.meaning block.now) h → IsLater now h → B.stands block.now (state_of node.now words.old) h → (k : ℕ) → k < node.now.nout → word words.new (node.now.outs + k) ≡ out_word (given (blocks_of B.inputs B.results B.width B.meaning B.stands B.is_sound) block.now node.now h now (word words.old)) k }
-    ensures fault { (h : History) → IsHistory (B.inputs block.now) (B.meaning block.now) h → IsLater now h → B.stands block.now (state_of node.now words.old) h → result ≡ has_fault (blocks_of B.inputs B.results B.width B.meaning B.stands B.is_sound) block.now node.now h now (word words.old) }
+    ensures answers { result ≡ false → ready (word words.old) node.now.ins node.now.reads ≡ true → (k : ℕ) → k < node.now.nout → IsValue (sort_at _kinds.now (node.now.outs + k)) (word words.new (node.now.outs + k)) }
+    ensures ready { result ≡ true → ready (word words.old) node.now.ins node.now.reads ≡ true }
+    ensures lacks { result ≡ true → B.may_lack block.now now (ins_of node.now words.old) }
+    ensures none { result ≡ true → (k : ℕ) → k < node.now.nout → word words.new (node.now.outs + k) ≡ no_value }
+    ensures gives { (h : History) → IsHistory (B.inputs block.now) (B.meaning block.now) h → IsLater now h → B.stands block.now (state_of node.now words.old) h → (k : ℕ) → k < node.now.nout → word words.new (node.now.outs + k) ≡ out_word (given (blocks_of B.inputs B.results B.width B.meaning B.stands B.is_sound B.may_lack) block.now node.now h now (word words.old)) k }
+    ensures fault { (h : History) → IsHistory (B.inputs block.now) (B.meaning block.now) h → IsLater now h → B.stands block.now (state_of node.now words.old) h → result ≡ has_fault (blocks_of B.inputs B.results B.width B.meaning B.stands B.is_sound B.may_lack) block.now node.now h now (word words.old) }
 {
     if may_emit(whole, words, node) {
         match emit_one(block, node, words, now, steps) {
@@ -131,7 +135,7 @@ fn advance<B: Elementary, L: Ledger>(
     now: i64,
     steps: &mut Steps<L>,
 ) -> Option<usize>
-    requires laid { Laid (blocks_of B.inputs B.results B.width B.meaning B.stands B.is_sound) (net_of blocks.now nodes.now _actions.now _kinds.now _rows.now) (length words.old) }
+    requires laid { Laid (blocks_of B.inputs B.results B.width B.meaning B.stands B.is_sound B.may_lack) (net_of blocks.now nodes.now _actions.now _kinds.now _rows.now) (length words.old) }
     requires names { Names (net_of blocks.now nodes.now _actions.now _kinds.now _rows.now) action }
     requires time { IsTime now }
     requires inside { IfSome least (λ j. j < length nodes.now) }
@@ -148,8 +152,9 @@ fn advance<B: Elementary, L: Ledger>(
     ensures states { drop (length _kinds.now) words.new ≡ drop (length _kinds.now) words.old }
     ensures typed { (e : ℕ) → Writes nodes.now action e → IsTyped _kinds.now (word words.new) e }
     ensures values { result ≡ None → (e : ℕ) → Writes nodes.now action e → IsValue (sort_at _kinds.now e) (word words.new e) }
-    ensures gives { (r : Past) → Starts (blocks_of B.inputs B.results B.width B.meaning B.stands B.is_sound) (net_of blocks.now nodes.now _actions.now _kinds.now _rows.now) now r words.old → Gives (blocks_of B.inputs B.results B.width B.meaning B.stands B.is_sound) (net_of blocks.now nodes.now _actions.now _kinds.now _rows.now) now row.now r (word words.old) (word words.new) action }
-    ensures fault { (r : Past) → Starts (blocks_of B.inputs B.results B.width B.meaning B.stands B.is_sound) (net_of blocks.now nodes.now _actions.now _kinds.now _rows.now) now r words.old → (b : Bool) × FaultIs (blocks_of B.inputs B.results B.width B.meaning B.stands B.is_sound) (net_of blocks.now nodes.now _actions.now _kinds.now _rows.now) now r (word words.old) b action × (result ≡ cond b (lesser least action) least) }
+    ensures tried { (b : Bool) × LackIs (blocks_of B.inputs B.results B.width B.meaning B.stands B.is_sound B.may_lack) (net_of blocks.now nodes.now _actions.now _kinds.now _rows.now) now (word words.new) b action × (result ≡ cond b (lesser least action) least) }
+    ensures gives { (r : Past) → Starts (blocks_of B.inputs B.results B.width B.meaning B.stands B.is_sound B.may_lack) (net_of blocks.now nodes.now _actions.now _kinds.now _rows.now) now r words.old → Gives (blocks_of B.inputs B.results B.width B.meaning B.stands B.is_sound B.may_lack) (net_of blocks.now nodes.now _actions.now _kinds.now _rows.now) now row.now r (word words.old) (word words.new) action }
+    ensures fault { (r : Past) → Starts (blocks_of B.inputs B.results B.width B.meaning B.stands B.is_sound B.may_lack) (net_of blocks.now nodes.now _actions.now _kinds.now _rows.now) now r words.old → (b : Bool) × FaultIs (blocks_of B.inputs B.results B.width B.meaning B.stands B.is_sound B.may_lack) (net_of blocks.now nodes.now _actions.now _kinds.now _rows.now) now r (word words.old) b action × (result ≡ cond b (lesser least action) least) }
 {
     match action {
         Action::Input { place, to } => {
@@ -189,7 +194,7 @@ pub fn emit_all<B: Elementary, L: Ledger>(
     now: i64,
     steps: &mut Steps<L>,
 ) -> Option<usize>
-    requires laid { Laid (blocks_of B.inputs B.results B.width B.meaning B.stands B.is_sound) (net_of blocks.now nodes.now actions.now kinds.now rows.now) (length words.old) }
+    requires laid { Laid (blocks_of B.inputs B.results B.width B.meaning B.stands B.is_sound B.may_lack) (net_of blocks.now nodes.now actions.now kinds.now rows.now) (length words.old) }
     requires planned { Planned (net_of blocks.now nodes.now actions.now kinds.now rows.now) }
     requires time { IsTime now }
     requires row { RowOf rows.now row.now }
@@ -201,10 +206,11 @@ pub fn emit_all<B: Elementary, L: Ledger>(
     ensures states { drop (length kinds.now) words.new ≡ drop (length kinds.now) words.old }
     ensures typed { (e : ℕ) → e < length kinds.now → IsTyped kinds.now (word words.new) e }
     ensures values { result ≡ None → (e : ℕ) → e < length kinds.now → IsValue (sort_at kinds.now e) (word words.new e) }
-    ensures solves { (r : Past) → Starts (blocks_of B.inputs B.results B.width B.meaning B.stands B.is_sound) (net_of blocks.now nodes.now actions.now kinds.now rows.now) now r words.old → Solves (blocks_of B.inputs B.results B.width B.meaning B.stands B.is_sound) (net_of blocks.now nodes.now actions.now kinds.now rows.now) now row.now r (word words.new) }
-    ensures only { (r : Past) → Starts (blocks_of B.inputs B.results B.width B.meaning B.stands B.is_sound) (net_of blocks.now nodes.now actions.now kinds.now rows.now) now r words.old → (v : Valuation) → Solves (blocks_of B.inputs B.results B.width B.meaning B.stands B.is_sound) (net_of blocks.now nodes.now actions.now kinds.now rows.now) now row.now r v → (e : ℕ) → e < length kinds.now → v e ≡ word words.new e }
-    ensures fault { (r : Past) → Starts (blocks_of B.inputs B.results B.width B.meaning B.stands B.is_sound) (net_of blocks.now nodes.now actions.now kinds.now rows.now) now r words.old → IfSome result (λ j. FirstFault (blocks_of B.inputs B.results B.width B.meaning B.stands B.is_sound) (net_of blocks.now nodes.now actions.now kinds.now rows.now) now r (word words.new) j) }
-    ensures none { (r : Past) → Starts (blocks_of B.inputs B.results B.width B.meaning B.stands B.is_sound) (net_of blocks.now nodes.now actions.now kinds.now rows.now) now r words.old → result ≡ None → NoFault (blocks_of B.inputs B.results B.width B.meaning B.stands B.is_sound) (net_of blocks.now nodes.now actions.now kinds.now rows.now) now r (word words.new) }
+    ensures lacks { IfSome result (λ j. FirstLack (blocks_of B.inputs B.results B.width B.meaning B.stands B.is_sound B.may_lack) (net_of blocks.now nodes.now actions.now kinds.now rows.now) now (word words.new) j) }
+    ensures solves { (r : Past) → Starts (blocks_of B.inputs B.results B.width B.meaning B.stands B.is_sound B.may_lack) (net_of blocks.now nodes.now actions.now kinds.now rows.now) now r words.old → Solves (blocks_of B.inputs B.results B.width B.meaning B.stands B.is_sound B.may_lack) (net_of blocks.now nodes.now actions.now kinds.now rows.now) now row.now r (word words.new) }
+    ensures only { (r : Past) → Starts (blocks_of B.inputs B.results B.width B.meaning B.stands B.is_sound B.may_lack) (net_of blocks.now nodes.now actions.now kinds.now rows.now) now r words.old → (v : Valuation) → Solves (blocks_of B.inputs B.results B.width B.meaning B.stands B.is_sound B.may_lack) (net_of blocks.now nodes.now actions.now kinds.now rows.now) now row.now r v → (e : ℕ) → e < length kinds.now → v e ≡ word words.new e }
+    ensures fault { (r : Past) → Starts (blocks_of B.inputs B.results B.width B.meaning B.stands B.is_sound B.may_lack) (net_of blocks.now nodes.now actions.now kinds.now rows.now) now r words.old → IfSome result (λ j. FirstFault (blocks_of B.inputs B.results B.width B.meaning B.stands B.is_sound B.may_lack) (net_of blocks.now nodes.now actions.now kinds.now rows.now) now r (word words.new) j) }
+    ensures none { (r : Past) → Starts (blocks_of B.inputs B.results B.width B.meaning B.stands B.is_sound B.may_lack) (net_of blocks.now nodes.now actions.now kinds.now rows.now) now r words.old → result ≡ None → NoFault (blocks_of B.inputs B.results B.width B.meaning B.stands B.is_sound B.may_lack) (net_of blocks.now nodes.now actions.now kinds.now rows.now) now r (word words.new) }
 {
     let mut least: Option<usize> = None;
     for i in 0..actions.len() {

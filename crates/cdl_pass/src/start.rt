@@ -32,7 +32,7 @@ pub fn reset_all<B: Elementary>(
     _rows: &[ValueType],
     words: &mut [i64],
 )
-    requires laid { Laid (blocks_of B.inputs B.results B.width B.meaning B.stands B.is_sound) (net_of blocks.now nodes.now _actions.now _kinds.now _rows.now) (length words.old) }
+    requires laid { Laid (blocks_of B.inputs B.results B.width B.meaning B.stands B.is_sound B.may_lack) (net_of blocks.now nodes.now _actions.now _kinds.now _rows.now) (length words.old) }
     ensures size { length words.new ≡ length words.old }
     ensures sound { AllAt (net_of blocks.now nodes.now _actions.now _kinds.now _rows.now) (λ j b p. B.is_sound b (state_of p words.new) (negsuc 0)) }
     ensures stands { AllAt (net_of blocks.now nodes.now _actions.now _kinds.now _rows.now) (λ j b p. B.stands b (state_of p words.new) []) }
@@ -62,9 +62,9 @@ pub fn first_unsound<B: Elementary>(
     words: &[i64],
     last: i64,
 ) -> Option<usize>
-    requires laid { Laid (blocks_of B.inputs B.results B.width B.meaning B.stands B.is_sound) (net_of blocks.now nodes.now _actions.now _kinds.now _rows.now) (length words.now) }
+    requires laid { Laid (blocks_of B.inputs B.results B.width B.meaning B.stands B.is_sound B.may_lack) (net_of blocks.now nodes.now _actions.now _kinds.now _rows.now) (length words.now) }
     ensures sound { result ≡ None → AllAt (net_of blocks.now nodes.now _actions.now _kinds.now _rows.now) (λ j b p. B.is_sound b (state_of p words.now) last) }
-    ensures first { IfSome result (λ i. FirstUnsound (blocks_of B.inputs B.results B.width B.meaning B.stands B.is_sound) (net_of blocks.now nodes.now _actions.now _kinds.now _rows.now) last words.now i) }
+    ensures first { IfSome result (λ i. FirstUnsound (blocks_of B.inputs B.results B.width B.meaning B.stands B.is_sound B.may_lack) (net_of blocks.now nodes.now _actions.now _kinds.now _rows.now) last words.now i) }
     ensures standing { AllAt (net_of blocks.now nodes.now _actions.now _kinds.now _rows.now) (λ j b p. (h : History) × IsHistory (B.inputs b) (B.meaning b) h × B.stands b (state_of p words.now) h × (last ≡ last_time h)) → result ≡ None }
 {
     for i in 0..nodes.len() {

@@ -4,7 +4,7 @@ ghost use Rattle.std.specs.Prelude.{◌≡◌, ◌∷◌, ℕ, ◌+◌, ◌<◌,
 ghost use Rattle.cdl_values.specs.History.{IsTime, IsValue, word};
 ghost use Rattle.cdl_pass.specs.Windows.{state_of};
 ghost use Rattle.cdl_pass.specs.Net.{blocks_of, net_of, sort_at, AllAt, Laid, Planned};
-ghost use Rattle.cdl_pass.specs.Tick.{IsTyped, Past, Starts, Solves, NoFault, FirstFault, RowOf, Valuation, spent_in};
+ghost use Rattle.cdl_pass.specs.Tick.{IsTyped, Past, Starts, Solves, NoFault, FirstFault, FirstLack, RowOf, Valuation, spent_in};
 ghost use Rattle.cdl_pass.specs.Absorb.{Stood};
 
 use crate::absorb::absorb_all;
@@ -32,7 +32,7 @@ pub fn tick_all<B: Elementary, L: Ledger>(
     now: i64,
     steps: &mut Steps<L>,
 ) -> Result<(), BlockFault>
-    requires laid { Laid (blocks_of B.inputs B.results B.width B.meaning B.stands B.is_sound) (net_of blocks.now nodes.now actions.now kinds.now rows.now) (length words.old) }
+    requires laid { Laid (blocks_of B.inputs B.results B.width B.meaning B.stands B.is_sound B.may_lack) (net_of blocks.now nodes.now actions.now kinds.now rows.now) (length words.old) }
     requires planned { Planned (net_of blocks.now nodes.now actions.now kinds.now rows.now) }
     requires time { IsTime now }
     requires row { RowOf rows.now row.now }
@@ -45,10 +45,11 @@ pub fn tick_all<B: Elementary, L: Ledger>(
     ensures states { OnErr result (drop (length kinds.now) words.new ≡ drop (length kinds.now) words.old) }
     ensures typed { (e : ℕ) → e < length kinds.now → IsTyped kinds.now (word words.new) e }
     ensures values { OnOk result ((e : ℕ) → e < length kinds.now → IsValue (sort_at kinds.now e) (word words.new e)) }
-    ensures solves { (r : Past) → Starts (blocks_of B.inputs B.results B.width B.meaning B.stands B.is_sound) (net_of blocks.now nodes.now actions.now kinds.now rows.now) now r words.old → Solves (blocks_of B.inputs B.results B.width B.meaning B.stands B.is_sound) (net_of blocks.now nodes.now actions.now kinds.now rows.now) now row.now r (word words.new) }
-    ensures only { (r : Past) → Starts (blocks_of B.inputs B.results B.width B.meaning B.stands B.is_sound) (net_of blocks.now nodes.now actions.now kinds.now rows.now) now r words.old → (v : Valuation) → Solves (blocks_of B.inputs B.results B.width B.meaning B.stands B.is_sound) (net_of blocks.now nodes.now actions.now kinds.now rows.now) now row.now r v → (e : ℕ) → e < length kinds.now → v e ≡ word words.new e }
-    ensures ok { OnOk result ((r : Past) → Starts (blocks_of B.inputs B.results B.width B.meaning B.stands B.is_sound) (net_of blocks.now nodes.now actions.now kinds.now rows.now) now r words.old → NoFault (blocks_of B.inputs B.results B.width B.meaning B.stands B.is_sound) (net_of blocks.now nodes.now actions.now kinds.now rows.now) now r (word words.new) × Stood (blocks_of B.inputs B.results B.width B.meaning B.stands B.is_sound) (net_of blocks.now nodes.now actions.now kinds.now rows.now) now r words.new) }
-    ensures fault { IfErr result (λ f. (r : Past) → Starts (blocks_of B.inputs B.results B.width B.meaning B.stands B.is_sound) (net_of blocks.now nodes.now actions.now kinds.now rows.now) now r words.old → FirstFault (blocks_of B.inputs B.results B.width B.meaning B.stands B.is_sound) (net_of blocks.now nodes.now actions.now kinds.now rows.now) now r (word words.new) f.block) }
+    ensures lacks { IfErr result (λ f. FirstLack (blocks_of B.inputs B.results B.width B.meaning B.stands B.is_sound B.may_lack) (net_of blocks.now nodes.now actions.now kinds.now rows.now) now (word words.new) f.block) }
+    ensures solves { (r : Past) → Starts (blocks_of B.inputs B.results B.width B.meaning B.stands B.is_sound B.may_lack) (net_of blocks.now nodes.now actions.now kinds.now rows.now) now r words.old → Solves (blocks_of B.inputs B.results B.width B.meaning B.stands B.is_sound B.may_lack) (net_of blocks.now nodes.now actions.now kinds.now rows.now) now row.now r (word words.new) }
+    ensures only { (r : Past) → Starts (blocks_of B.inputs B.results B.width B.meaning B.stands B.is_sound B.may_lack) (net_of blocks.now nodes.now actions.now kinds.now rows.now) now r words.old → (v : Valuation) → Solves (blocks_of B.inputs B.results B.width B.meaning B.stands B.is_sound B.may_lack) (net_of blocks.now nodes.now actions.now kinds.now rows.now) now row.now r v → (e : ℕ) → e < length kinds.now → v e ≡ word words.new e }
+    ensures ok { OnOk result ((r : Past) → Starts (blocks_of B.inputs B.results B.width B.meaning B.stands B.is_sound B.may_lack) (net_of blocks.now nodes.now actions.now kinds.now rows.now) now r words.old → NoFault (blocks_of B.inputs B.results B.width B.meaning B.stands B.is_sound B.may_lack) (net_of blocks.now nodes.now actions.now kinds.now rows.now) now r (word words.new) × Stood (blocks_of B.inputs B.results B.width B.meaning B.stands B.is_sound B.may_lack) (net_of blocks.now nodes.now actions.now kinds.now rows.now) now r words.new) }
+    ensures fault { IfErr result (λ f. (r : Past) → Starts (blocks_of B.inputs B.results B.width B.meaning B.stands B.is_sound B.may_lack) (net_of blocks.now nodes.now actions.now kinds.now rows.now) now r words.old → FirstFault (blocks_of B.inputs B.results B.width B.meaning B.stands B.is_sound B.may_lack) (net_of blocks.now nodes.now actions.now kinds.now rows.now) now r (word words.new) f.block) }
 {
     match emit_all(blocks, nodes, actions, kinds, rows, row, words, now, steps) {
         Some(block) => Err(BlockFault { block }),

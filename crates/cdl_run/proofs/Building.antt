@@ -11,7 +11,7 @@ use Rattle.cdl_values.specs.declared.value.Array.{Array}
 use Rattle.cdl_values.specs.declared.value.ValueType.{ValueType}
 use Rattle.cdl_kinds.specs.declared.kind.Kind.{Kind}
 use Rattle.cdl_kinds.specs.Ports.{inputs, outputs}
-use Rattle.cdl_kinds.specs.Meanings.{meaning}
+use Rattle.cdl_kinds.specs.Meanings.{MayLack, meaning}
 use Rattle.cdl_kinds.specs.States.{IsSound, Stands}
 use Rattle.cdl_kinds.specs.StateWords.{state_words}
 use Rattle.cdl_network.specs.Lists.{In, numbers}
@@ -170,8 +170,8 @@ rows_next f g t xs xs2 a e = e ∙ ap (λ l. cond (f t) (l ++ g t ∷ []) l) a �
     by_cases true = sym (map-append g (filter f (numbers 0 t)) (t ∷ []))
     by_cases false = refl
 
-pub block_is : {B : Type 0} (m : Blocks B) (b : B) (k : Kind) (v w : List Array) → v ≡ w → m.inputs b ≡ inputs k v → m.results b ≡ outputs k v → m.width b ≡ state_words k v → m.meaning b ≡ meaning k v → ((state : List ℤ) (h : History) → m.stands b state h ↔ Stands k v state h) → ((state : List ℤ) (last : ℤ) → m.sound b state last ↔ IsSound k v state last) → IsBlock m b k w
-block_is m b k v w e i r d f s t = subst (λ z. IsBlock m b k z) e (record { inputs = i; results = r; width = d; meaning = f; stands = s; sound = t })
+pub block_is : {B : Type 0} (m : Blocks B) (b : B) (k : Kind) (v w : List Array) → v ≡ w → m.inputs b ≡ inputs k v → m.results b ≡ outputs k v → m.width b ≡ state_words k v → m.meaning b ≡ meaning k v → ((state : List ℤ) (h : History) → m.stands b state h ↔ Stands k v state h) → ((state : List ℤ) (last : ℤ) → m.sound b state last ↔ IsSound k v state last) → ((now : ℤ) (x : List ℤ) → m.may_lack b now x → MayLack k v now x) → IsBlock m b k w
+block_is m b k v w e i r d f s t l = subst (λ z. IsBlock m b k z) e (record { inputs = i; results = r; width = d; meaning = f; stands = s; sound = t; may_lack = l })
 
 pub element_is : (n : Net) (xs : List NetElement) (x : ℕ) (e : NetElement) → xs ≡ n.elements → x < length n.elements → e ≡ get_or xs x e → element n x ≡ e
 element_is n xs x e q h r = sym (get_or_read n.elements x e h (r ∙ ap (λ l. get_or l x e) q) no_element)

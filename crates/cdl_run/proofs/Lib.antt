@@ -8,3 +8,4 @@ pub mod Building
 pub mod Counting
 pub mod Ticking
 pub mod Resuming
+pub mod Lacking

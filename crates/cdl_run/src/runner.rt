@@ -13,7 +13,7 @@ ghost use Rattle.cdl_run.specs.inner.AnyBlocks.{any_blocks};
 ghost use Rattle.cdl_run.specs.declared.resume.ResumeFault.TheVariants.{OutOfMemory as no_memory};
 ghost use Rattle.cdl_run.specs.Words.{elementary_count, root_outputs, state_place};
 ghost use Rattle.cdl_run.specs.Runs.{HasFault, IsRow, RunStands, tick_at};
-ghost use Rattle.cdl_run.specs.Running.{AreSound, FirstUnsound, IsCause, Stands};
+ghost use Rattle.cdl_run.specs.Running.{AreSound, FirstLacks, FirstUnsound, IsCause, Stands};
 ghost use Rattle.cdl_run.specs.inner.Ready.{IsFixed};
 
 use crate::ResumeFault;
@@ -184,7 +184,8 @@ impl Runner {
 
     /// One tick at this time, with a word for each input of the root. Each element then has a value of its type. It takes no memory.
     /// RangeFault: the first elementary instance in preorder whose direct inputs all have values, and whose meaning has none.
-    /// Each further tick then answers the same.
+    /// Each further tick then answers the same. It is so too for a runner that stands for no ticks, from words that no run gave: the
+    /// instance is then the first whose direct inputs all have values at this tick and that gives none.
     pub fn tick<L: Ledger>(
         &mut self,
         now: i64,
@@ -201,6 +202,7 @@ impl Runner {
         ensures few { steps.new ≤ steps.old + elementary_count self.old.net }
         ensures ok { (ts : List Tick) → Stands self.old ts → OnOk result (Stands self.new (ts ++ tick_at now row.now ∷ [])) }
         ensures fault { (ts : List Tick) → Stands self.old ts → IfErr result (λ f. HasFault self.old.net ts (tick_at now row.now) f.instance) }
+        ensures lacks { self.old.fault ≡ None → IfErr result (λ f. FirstLacks self.old.net now self.new.words f.instance) }
         ensures kept { IfErr result (λ f. self.new.fault ≡ Some f.instance) }
         ensures again { (i : ℕ) → self.old.fault ≡ Some i → (result ≡ Err (record { instance = i })) × (self.new ≡ self.old) }
     {

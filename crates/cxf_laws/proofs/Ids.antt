@@ -9,7 +9,7 @@ use Rattle.std.proofs.Math.Seq.{drop-cons}
 use Rattle.cdl_source.specs.declared.limits.TheConstants.{LONGEST_UNIT}
 use Rattle.cdl_network.specs.Lists.{Apart, In, numbers}
 use Rattle.cdl_network.specs.Rules.{is_empty, is_real}
-use Rattle.cdl_network.proofs.Numbers.{bool_cases}
+use Rattle.cdl_source.proofs.Cases.{by_bool}
 use Rattle.cdl_network.proofs.Places.{in_numbers}
 use Rattle.cdl_network.proofs.Renaming.{of_map}
 use Rattle.cdl_connect.proofs.Networks.{apart_numbers}
@@ -150,7 +150,7 @@ abbrev IsFine : NetElement → Type 0
 IsFine e = (is_plain e.value_type ≡ true) × (is_empty e.unit ≡ false → is_real e.value_type ≡ true) × (length e.unit ≤ LONGEST_UNIT)
 
 some_unit : (e : NetElement) → (is_real e.value_type ≡ false → e.unit ≡ []) → is_empty e.unit ≡ false → is_real e.value_type ≡ true
-some_unit e f h = bool_cases (is_real e.value_type) (λ t. t) (λ t. absurd (true≢false (sym (ap is_empty (f t)) ∙ h)))
+some_unit e f h = by_bool (is_real e.value_type) (λ t. t) (λ t. absurd (true≢false (sym (ap is_empty (f t)) ∙ h)))
 
 elements_fine : (n : Net) → IsWellFormed n → All IsFine n.elements
 elements_fine n w = All-from_get_or IsFine n.elements no_element (λ x h. (w.plain.each x h, some_unit (element n x) (w.units.real x h), w.units.short x h))

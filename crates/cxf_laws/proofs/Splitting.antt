@@ -8,7 +8,7 @@ use Rattle.std.proofs.lemmas.List.Folds.{list_all-append}
 use Rattle.cdl_decimal.specs.Spells.{number, number_after}
 use Rattle.cdl_decimal.proofs.DigitLaws.{number_after-append}
 use Rattle.cdl_source.specs.Identifiers.{is_digit, is_word, is_word_byte}
-use Rattle.cdl_network.proofs.Numbers.{bool_cases}
+use Rattle.cdl_source.proofs.Cases.{by_bool}
 use Rattle.cdl_connect.specs.Paths.{IsDecimal, IsIndexText, IsStepText, Step, digit, extended, is_root_path, more, none, one, two}
 use Rattle.cxf_graph.proofs.Texts.{all_weaker, decimal_digits, identifier_bytes, identifier_word, is_step_byte, step_bytes}
 
@@ -155,7 +155,7 @@ record IsSplit (p s : List ℕ) : Type 0 where
   pub base : p ≡ cond (mark == 35) (codes "#") front
 
 split : (p s : List ℕ) → IsSplit p s
-split p s = bool_cases {P = IsSplit p s} (is_root_path p)
+split p s = by_bool {P = IsSplit p s} (is_root_path p)
     (λ h. record {
       front = [];
       mark = 35;

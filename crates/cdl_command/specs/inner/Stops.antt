@@ -16,10 +16,10 @@ use Rattle.cdl_command.specs.Roots.{IsFlatRoot, flat_root}
 use Rattle.cdl_command.specs.Tables.{BreaksTable}
 use Rattle.cdl_command.specs.Verdict.{root_path}
 use Rattle.cdl_flat.specs.Blocks.{Block}
-use Rattle.cdl_command.specs.declared.outcome.Outcome.{Outcome}
-use Rattle.cdl_command.specs.declared.outcome.Outcome.TheVariants as outcome
-use Rattle.cdl_command.specs.declared.outcome.Spot.{Spot}
-use Rattle.cdl_command.specs.declared.outcome.Spot.TheVariants.{Source}
+use Rattle.cdl_job.specs.declared.outcome.Outcome.{Outcome}
+use Rattle.cdl_job.specs.declared.outcome.Outcome.TheVariants as outcome
+use Rattle.cdl_job.specs.declared.outcome.Spot.{Spot}
+use Rattle.cdl_job.specs.declared.outcome.Spot.TheVariants.{Source}
 use Rattle.cdl_command.specs.declared.stop.Refusal.{Refusal}
 use Rattle.cdl_command.specs.declared.stop.Ended.{Ended}
 use Rattle.cdl_command.specs.declared.stop.Stop.{Stop}

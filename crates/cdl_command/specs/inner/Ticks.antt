@@ -8,8 +8,8 @@ use Rattle.cdl_table.specs.Trace.{record_text}
 use Rattle.cdl_table.specs.declared.trace.TraceError.{TraceError}
 use Rattle.cdl_table.specs.declared.trace.TraceError.TheVariants as trace
 use Rattle.cdl_command.specs.Runs.{Gives, AreRecords, IsTrace, Faults, Ends, IsFront, path_of}
-use Rattle.cdl_command.specs.declared.outcome.Outcome.{Outcome}
-use Rattle.cdl_command.specs.declared.outcome.Outcome.TheVariants as outcome
+use Rattle.cdl_job.specs.declared.outcome.Outcome.{Outcome}
+use Rattle.cdl_job.specs.declared.outcome.Outcome.TheVariants as outcome
 use Rattle.cdl_command.specs.declared.trace.TickStop.{TickStop}
 use Rattle.cdl_command.specs.declared.trace.TickStop.TheVariants.{RangeFault, WriteFault, OutOfMemory}
 

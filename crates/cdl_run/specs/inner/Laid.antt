@@ -4,7 +4,7 @@ use Rattle.cdl_values.specs.History.{History}
 use Rattle.cdl_values.specs.declared.value.Array.{Array}
 use Rattle.cdl_values.specs.declared.value.ValueType.{ValueType}
 use Rattle.cdl_kinds.specs.declared.kind.Kind.{Kind}
-use Rattle.cdl_kinds.specs.Meanings.{meaning}
+use Rattle.cdl_kinds.specs.Meanings.{MayLack, meaning}
 use Rattle.cdl_kinds.specs.Ports.{inputs, outputs}
 use Rattle.cdl_kinds.specs.StateWords.{state_words}
 use Rattle.cdl_kinds.specs.States.{IsSound, Stands}
@@ -29,6 +29,7 @@ pub record IsBlock {B : Type 0} (m : Blocks B) (b : B) (k : Kind) (v : List Arra
   pub meaning : m.meaning b ≡ meaning k v
   pub stands : (state : List ℤ) (h : History) → m.stands b state h ↔ Stands k v state h
   pub sound : (state : List ℤ) (last : ℤ) → m.sound b state last ↔ IsSound k v state last
+  pub may_lack : (now : ℤ) (x : List ℤ) → m.may_lack b now x → MayLack k v now x
 
 -- where the words of an instance lie
 abbrev pub node_of : Net → ℕ → NetInstance → Kind → List Array → Node

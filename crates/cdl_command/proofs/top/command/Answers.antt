@@ -1,6 +1,6 @@
 use Rattle.std.proofs.Common.{sym}
 use Rattle.cdl_source.specs.Causes.{Rose}
-use Rattle.cdl_command.specs.Job.{task_of_job}
+use Rattle.cdl_job.specs.Job.{task_of_job}
 use Rattle.cdl_command.proofs.AnswerFacts.{after_report, read_fault_told, write_fault_told}
 use Rattle.cdl_command.proofs.DueFacts.{due_files}
 use Rattle.cdl_command.proofs.top.command.Goals as goal

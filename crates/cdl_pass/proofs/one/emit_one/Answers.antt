@@ -2,7 +2,7 @@ use Rattle.std.proofs.Common.{arith, rules, sym, ap, ◌≡◌, ◌+◌, ◌-◌
 use Rattle.std.proofs.lemmas.Int.{to_z-of_z}
 use Rattle.std.specs.Int.{w64}
 use Rattle.cdl_pass.specs.Windows.{state_of}
-use Rattle.cdl_pass.proofs.Places.{after_emit, only_outs, ins_there, moved}
+use Rattle.cdl_pass.proofs.Places.{after_emit, only_outs, ins_there, lacking, moved}
 use Rattle.cdl_pass.proofs.one.emit_one.Goals as goal
 
 pub returns-clause-only : goal.returns-clause-only
@@ -22,3 +22,10 @@ returns-clause-gives g c h k l m =
     (ins_there c.args.node.now c.args.words.now _ _ (c.args.node.now.ins + c.args.node.now.nin - c.args.node.now.ins) c.requires.lies c.split_at_mut-elements.ensures.front c.split_at_mut-front.ensures.front (omega arith))
     (sym w.1)
     (c.emit.ensures.gives h k (rw t l) (rw s m))
+
+pub returns-clause-lacks : goal.returns-clause-lacks
+returns-clause-lacks g c =
+    let t = to_z-of_z w64 c.args.now c.ranges.now in
+    lacking (g.B.Elementary.may_lack c.args.block.now) c.emit.result c.args.now _ _ _ t
+    (ins_there c.args.node.now c.args.words.now _ _ (c.args.node.now.ins + c.args.node.now.nin - c.args.node.now.ins) c.requires.lies c.split_at_mut-elements.ensures.front c.split_at_mut-front.ensures.front (omega arith))
+    c.emit.ensures.lacks

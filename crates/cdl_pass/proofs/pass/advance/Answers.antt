@@ -7,6 +7,7 @@ use Rattle.cdl_pass.specs.declared.net.Node.{Node}
 use Rattle.cdl_pass.specs.Net.{sort_at, blocks_of, net_of}
 use Rattle.cdl_pass.specs.Tick.{IsTyped}
 use Rattle.cdl_pass.proofs.Ready.{ready_all, value_some}
+use Rattle.cdl_pass.proofs.Lacking.{lack_at}
 use Rattle.cdl_pass.proofs.Passing.{none_of, first_none, lacks_none, here, gives_at, fault_at, lesser_inside, written_at}
 use Rattle.cdl_pass.proofs.pass.advance.Goals as goal
 
@@ -88,7 +89,7 @@ returns-in-Emit-clause-gives g c =
     let node : Node = get_or c.args.nodes.now j node0 in
     let t = to_z-of_z w64 c.args.now c.ranges.now in
     λ r s. let z = s j _ _ b p in
-    let m = blocks_of g.B.Elementary.inputs g.B.Elementary.results g.B.Elementary.width g.B.Elementary.meaning g.B.Elementary.stands g.B.Elementary.is_sound in
+    let m = blocks_of g.B.Elementary.inputs g.B.Elementary.results g.B.Elementary.width g.B.Elementary.meaning g.B.Elementary.stands g.B.Elementary.is_sound g.B.Elementary.may_lack in
     let n = net_of c.args.blocks.now c.args.nodes.now c.args._actions.now c.args._kinds.now c.args._rows.now in
     rw c.in-Emit.is (gives_at m n c.args.now c.args.row.now r (word c.args.words.now) (word c.emit_strict-fault.new.words) j _ node b p (rw t at (c.emit_strict-fault.ensures.gives (r j) z.0 (rw t z.1) z.2)))
 
@@ -101,7 +102,7 @@ returns-in-Emit-clause-fault g c =
     let node : Node = get_or c.args.nodes.now j node0 in
     let t = to_z-of_z w64 c.args.now c.ranges.now in
     λ r s. let z = s j _ _ b p in
-    let m = blocks_of g.B.Elementary.inputs g.B.Elementary.results g.B.Elementary.width g.B.Elementary.meaning g.B.Elementary.stands g.B.Elementary.is_sound in
+    let m = blocks_of g.B.Elementary.inputs g.B.Elementary.results g.B.Elementary.width g.B.Elementary.meaning g.B.Elementary.stands g.B.Elementary.is_sound g.B.Elementary.may_lack in
     let n = net_of c.args.blocks.now c.args.nodes.now c.args._actions.now c.args._kinds.now c.args._rows.now in
     rw c.in-Emit.is (c.emit_strict-fault.result, fault_at m n c.args.now r (word c.args.words.now) _ j _ node b p (rw t at (c.emit_strict-fault.ensures.fault (r j) z.0 (rw t z.1) z.2)), c.first_of.ensures)
 
@@ -115,3 +116,16 @@ pub returns-in-Emit-clause-inside : goal.returns-in-Emit-clause-inside
 returns-in-Emit-clause-inside g c =
     let hn : c.in-Emit.block < length c.args.nodes.now = rw c.in-Emit.is at c.requires.names in
     rw c.first_of.ensures (lesser_inside c.args.least c.in-Emit.block (length c.args.nodes.now) c.emit_strict-fault.result c.requires.inside hn)
+
+pub returns-in-Emit-clause-tried : goal.returns-in-Emit-clause-tried
+returns-in-Emit-clause-tried g c =
+    let j = c.in-Emit.block in
+    let hn : j < length c.args.nodes.now = rw c.in-Emit.is at c.requires.names in
+    let b = here c.args.blocks.now j c.index-blocks-block.result (omega (arith, c.requires.laid.same)) c.index-blocks-block.is in
+    let p = slice_get-get_or c.args.nodes.now j node0 hn in
+    let node : Node = get_or c.args.nodes.now j node0 in
+    let t = to_z-of_z w64 c.args.now c.ranges.now in
+    let m = blocks_of g.B.Elementary.inputs g.B.Elementary.results g.B.Elementary.width g.B.Elementary.meaning g.B.Elementary.stands g.B.Elementary.is_sound g.B.Elementary.may_lack in
+    let n = net_of c.args.blocks.now c.args.nodes.now c.args._actions.now c.args._kinds.now c.args._rows.now in
+    let e = c.emit_strict-fault.ensures in
+    rw c.in-Emit.is (c.emit_strict-fault.result, lack_at m n c.args.now c.args.words.now c.emit_strict-fault.new.words c.emit_strict-fault.result j _ node b p (c.requires.laid.each j _ _ b p) e.others e.ready (λ z. rw t at (e.lacks z)) e.none e.answers, c.first_of.ensures)

@@ -5,12 +5,13 @@ use Rattle.std.specs.Int.{w64}
 use Rattle.cdl_values.specs.History.{word}
 use Rattle.cdl_pass.specs.declared.net.Action.{Action}
 use Rattle.cdl_pass.specs.Net.{blocks_of, net_of}
+use Rattle.cdl_pass.proofs.Lacking.{first_lack, tried_next}
 use Rattle.cdl_pass.proofs.Passing.{passed_next, typed_next, all_solved, all_typed, all_values, first_fault, no_fault, agree_all, starts_kept, state_kept, spent_next, found, found_none, none_found}
 use Rattle.cdl_pass.proofs.pass.emit_all.Goals as goal
 
 pub advance-least-requires-clause-sound : goal.advance-least-requires-clause-sound
 advance-least-requires-clause-sound g c =
-    let m = blocks_of g.B.Elementary.inputs g.B.Elementary.results g.B.Elementary.width g.B.Elementary.meaning g.B.Elementary.stands g.B.Elementary.is_sound in
+    let m = blocks_of g.B.Elementary.inputs g.B.Elementary.results g.B.Elementary.width g.B.Elementary.meaning g.B.Elementary.stands g.B.Elementary.is_sound g.B.Elementary.may_lack in
     let n = net_of c.args.blocks.now c.args.nodes.now c.args.actions.now c.args.kinds.now c.args.rows.now in
     let t = to_z-of_z w64 c.args.now c.ranges.now in
     let inv = c.loop-i.invariant in
@@ -18,7 +19,7 @@ advance-least-requires-clause-sound g c =
 
 pub loop-i-preserved : goal.loop-i-preserved
 loop-i-preserved g c =
-    let m = blocks_of g.B.Elementary.inputs g.B.Elementary.results g.B.Elementary.width g.B.Elementary.meaning g.B.Elementary.stands g.B.Elementary.is_sound in
+    let m = blocks_of g.B.Elementary.inputs g.B.Elementary.results g.B.Elementary.width g.B.Elementary.meaning g.B.Elementary.stands g.B.Elementary.is_sound g.B.Elementary.may_lack in
     let n = net_of c.args.blocks.now c.args.nodes.now c.args.actions.now c.args.kinds.now c.args.rows.now in
     let t = to_z-of_z w64 c.args.now c.ranges.now in
     let inv = c.loop-i.invariant in
@@ -35,6 +36,7 @@ loop-i-preserved g c =
       few = omega (arith, s, e.few, inv.few);
       step = λ z. let y = e.plain z in let a = inv.step y in let b = e.step y in omega (arith, s, a, b);
       typed = typed_next (word c.loop-i.words) (word c.advance-least.new.words) new action (found new) c.requires.planned inv.typed is e.others e.typed (λ z f. e.values (none_found new f)) (λ z. (e.plain z, found_none new z));
+      tried = rw t (tried_next (word c.loop-i.words) (word c.advance-least.new.words) new action e.tried.0 c.requires.planned (rw t at inv.tried) is e.others (rw t at e.tried.1) e.tried.2);
       so_far = λ r st.
           let here = starts_kept c.args.now r c.args.words.now c.loop-i.words c.requires.laid inv.states (rw t at st) in
           let gives = e.gives r (rw t here) in
@@ -44,7 +46,7 @@ loop-i-preserved g c =
 
 pub returns-clause-values : goal.returns-clause-values
 returns-clause-values g c =
-    let m = blocks_of g.B.Elementary.inputs g.B.Elementary.results g.B.Elementary.width g.B.Elementary.meaning g.B.Elementary.stands g.B.Elementary.is_sound in
+    let m = blocks_of g.B.Elementary.inputs g.B.Elementary.results g.B.Elementary.width g.B.Elementary.meaning g.B.Elementary.stands g.B.Elementary.is_sound g.B.Elementary.may_lack in
     let n = net_of c.args.blocks.now c.args.nodes.now c.args.actions.now c.args.kinds.now c.args.rows.now in
     let t = to_z-of_z w64 c.args.now c.ranges.now in
     let inv = c.loop-i.invariant in
@@ -52,7 +54,7 @@ returns-clause-values g c =
 
 pub returns-clause-solves : goal.returns-clause-solves
 returns-clause-solves g c =
-    let m = blocks_of g.B.Elementary.inputs g.B.Elementary.results g.B.Elementary.width g.B.Elementary.meaning g.B.Elementary.stands g.B.Elementary.is_sound in
+    let m = blocks_of g.B.Elementary.inputs g.B.Elementary.results g.B.Elementary.width g.B.Elementary.meaning g.B.Elementary.stands g.B.Elementary.is_sound g.B.Elementary.may_lack in
     let n = net_of c.args.blocks.now c.args.nodes.now c.args.actions.now c.args.kinds.now c.args.rows.now in
     let t = to_z-of_z w64 c.args.now c.ranges.now in
     let inv = c.loop-i.invariant in
@@ -60,7 +62,7 @@ returns-clause-solves g c =
 
 pub returns-clause-only : goal.returns-clause-only
 returns-clause-only g c =
-    let m = blocks_of g.B.Elementary.inputs g.B.Elementary.results g.B.Elementary.width g.B.Elementary.meaning g.B.Elementary.stands g.B.Elementary.is_sound in
+    let m = blocks_of g.B.Elementary.inputs g.B.Elementary.results g.B.Elementary.width g.B.Elementary.meaning g.B.Elementary.stands g.B.Elementary.is_sound g.B.Elementary.may_lack in
     let n = net_of c.args.blocks.now c.args.nodes.now c.args.actions.now c.args.kinds.now c.args.rows.now in
     let t = to_z-of_z w64 c.args.now c.ranges.now in
     let inv = c.loop-i.invariant in
@@ -68,7 +70,7 @@ returns-clause-only g c =
 
 pub returns-clause-fault : goal.returns-clause-fault
 returns-clause-fault g c =
-    let m = blocks_of g.B.Elementary.inputs g.B.Elementary.results g.B.Elementary.width g.B.Elementary.meaning g.B.Elementary.stands g.B.Elementary.is_sound in
+    let m = blocks_of g.B.Elementary.inputs g.B.Elementary.results g.B.Elementary.width g.B.Elementary.meaning g.B.Elementary.stands g.B.Elementary.is_sound g.B.Elementary.may_lack in
     let n = net_of c.args.blocks.now c.args.nodes.now c.args.actions.now c.args.kinds.now c.args.rows.now in
     let t = to_z-of_z w64 c.args.now c.ranges.now in
     let inv = c.loop-i.invariant in
@@ -76,7 +78,7 @@ returns-clause-fault g c =
 
 pub returns-clause-none : goal.returns-clause-none
 returns-clause-none g c =
-    let m = blocks_of g.B.Elementary.inputs g.B.Elementary.results g.B.Elementary.width g.B.Elementary.meaning g.B.Elementary.stands g.B.Elementary.is_sound in
+    let m = blocks_of g.B.Elementary.inputs g.B.Elementary.results g.B.Elementary.width g.B.Elementary.meaning g.B.Elementary.stands g.B.Elementary.is_sound g.B.Elementary.may_lack in
     let n = net_of c.args.blocks.now c.args.nodes.now c.args.actions.now c.args.kinds.now c.args.rows.now in
     let t = to_z-of_z w64 c.args.now c.ranges.now in
     let inv = c.loop-i.invariant in
@@ -86,3 +88,11 @@ pub returns-clause-typed : goal.returns-clause-typed
 returns-clause-typed g c =
     let inv = c.loop-i.invariant in
     all_typed c.requires.planned inv.typed (omega (arith, c.loop-i-test.false))
+
+pub returns-clause-lacks : goal.returns-clause-lacks
+returns-clause-lacks g c =
+    let m = blocks_of g.B.Elementary.inputs g.B.Elementary.results g.B.Elementary.width g.B.Elementary.meaning g.B.Elementary.stands g.B.Elementary.is_sound g.B.Elementary.may_lack in
+    let n = net_of c.args.blocks.now c.args.nodes.now c.args.actions.now c.args.kinds.now c.args.rows.now in
+    let t = to_z-of_z w64 c.args.now c.ranges.now in
+    let inv = c.loop-i.invariant in
+    first_lack c.loop-i.least c.requires.planned (rw t at inv.tried) (omega (arith, c.loop-i-test.false))

@@ -2,12 +2,12 @@ use Rattle.std.proofs.Common.{◌≡◌, ◌+◌, ◌<◌, ◌≤◌, length, dr
 use Rattle.std.specs.Prelude.{IfSome}
 use Rattle.cdl_values.specs.History.{word}
 use Rattle.cdl_pass.specs.Net.{blocks_of, net_of}
-use Rattle.cdl_pass.specs.Tick.{Past, Starts, Typed, Passed, spent_in}
+use Rattle.cdl_pass.specs.Tick.{Past, Starts, Tried, Typed, Passed, spent_in}
 use Rattle.cdl_pass.proofs.pass.emit_all.Given as goal
 
 abbrev pub invariant-loop-i : goal.invariant-loop-i
 invariant-loop-i g l =
-    let m = blocks_of g.B.Elementary.inputs g.B.Elementary.results g.B.Elementary.width g.B.Elementary.meaning g.B.Elementary.stands g.B.Elementary.is_sound in
+    let m = blocks_of g.B.Elementary.inputs g.B.Elementary.results g.B.Elementary.width g.B.Elementary.meaning g.B.Elementary.stands g.B.Elementary.is_sound g.B.Elementary.may_lack in
     let n = net_of l.blocks l.nodes l.actions l.kinds l.rows in
     record {
       size : length l.words ≡ length l.initial.words;
@@ -16,5 +16,6 @@ invariant-loop-i g l =
       step : l.least ≡ None → l.steps ≡ l.initial.steps + spent_in l.actions l.i;
       inside : IfSome l.least (λ j. j < length l.nodes);
       typed : Typed n l.i (word l.words) l.least;
+      tried : Tried m n l.now l.i (word l.words) l.least;
       so_far : (r : Past) → Starts m n l.now r l.initial.words → Passed m n l.now l.row r l.i (word l.words) l.least;
     }

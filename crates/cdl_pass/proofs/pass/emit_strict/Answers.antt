@@ -64,3 +64,11 @@ returns-else-may_emit-clause-gives g c = λ h a b s.
     let t = to_z-of_z w64 c.args.now c.ranges.now in
     let r : ready (word c.args.words.now) c.args.node.now.ins c.args.node.now.reads ≡ false = cc in
     (gives_missing h c.args.now c.args.words.now c.blank-else-may_emit.new.words c.requires.fits r c.blank-else-may_emit.ensures.none).0
+
+pub returns-in-Err-clause-lacks : goal.returns-in-Err-clause-lacks
+returns-in-Err-clause-lacks g c = λ e.
+    let t = to_z-of_z w64 c.args.now c.ranges.now in
+    rw t at c.in-Err.ensures.lacks
+
+pub returns-in-Err-clause-none : goal.returns-in-Err-clause-none
+returns-in-Err-clause-none g c = λ e k l. blank_outs c.args.node.now c.blank.new.words c.blank.ensures.none k l

@@ -68,3 +68,8 @@ returns-in-None-clause-values g c =
     let mid : List ℤ = c.emit_all.new.words in
     let new : List ℤ = c.absorb_all.new.words in
     λ e h. rw (word_kept mid new (length c.args.kinds.now) e c.absorb_all.ensures.kept h) (c.emit_all.ensures.values c.in-None.is e h)
+
+pub returns-in-Some-clause-lacks : goal.returns-in-Some-clause-lacks
+returns-in-Some-clause-lacks g c =
+    let t = to_z-of_z w64 c.args.now c.ranges.now in
+    rw t at c.in-Some.ensures.lacks

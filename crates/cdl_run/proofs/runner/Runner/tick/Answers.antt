@@ -5,13 +5,14 @@ use Rattle.std.proofs.Common.{of_z, to_z}
 use Rattle.cdl_values.specs.History.{word}
 use Rattle.cdl_pass.specs.Absorb.{Stood}
 use Rattle.cdl_pass.specs.Net.{net_of}
-use Rattle.cdl_pass.specs.Tick.{FirstFault, NoFault, Past, Solves, Starts}
+use Rattle.cdl_pass.specs.Tick.{FirstFault, FirstLack, NoFault, Past, Solves, Starts}
 use Rattle.cdl_run.specs.inner.AnyBlocks.{any_blocks}
 use Rattle.cdl_run.specs.Runs.{HasFault, IsRow, RunStands, tick_at}
-use Rattle.cdl_run.specs.Running.{Stands}
+use Rattle.std.specs.List.{refill}
+use Rattle.cdl_run.specs.Running.{FirstLacks, Stands}
+use Rattle.cdl_run.proofs.Lacking.{first_lacks}
 use Rattle.cdl_run.proofs.Ticking.{element_values, fault_at, laid_at, moved, next_ready, none_fault, planned_at, refill_all, row_at, tick_fault, tick_ok}
 use Rattle.std.proofs.Common.{◌+◌, ◌<◌, List}
-use Rattle.std.specs.List.{refill}
 use Rattle.cdl_values.specs.History.{IsValue}
 use Rattle.cdl_connect.specs.Nets.{network_of}
 use Rattle.cdl_pass.specs.declared.net.Action.{Action}
@@ -82,6 +83,20 @@ returns-in-Err-clause-fault g c = λ ts s.
     let i = fault_at _ _ c.in-Err.fault.block c.index.result.now (omega (arith, a, b, d, e)) c.self.invariant.0.instances c.index.ensures in
     subst (λ x. HasFault x.net ts (tick_at c.args.now c.args.row.now) c.index.result.now) c.self.view_is
     (tick_fault c.args.now c.args.row.now c.tick_all.new.words c.in-Err.fault.block c.index.result.now c.self.invariant.0.set row c.requires.time later typed r.run solves fault i)
+
+pub returns-in-Err-clause-lacks : goal.returns-in-Err-clause-lacks
+returns-in-Err-clause-lacks g c = λ calm.
+    let t = to_z-of_z w64 c.args.now c.ranges.now in
+    let size = c.in-Err.ensures.size ∙ ap length c.all_mut-words.ensures.value in
+    let lack = moved (λ bs ps acts kinds rows words now. FirstLack any_blocks (net_of bs ps acts kinds rows) now (word c.tick_all.new.words) c.in-Err.fault.block) c.deref.result.now _ c.deref-2.result.now _ c.deref-3.result.now _ c.deref-4.result.now _ c.deref-5.result.now _ c.all_mut-words.result.now c.self.inside.region.words (to_z w64 (of_z w64 c.args.now)) c.args.now c.deref.ensures.value c.deref-2.ensures.value c.deref-3.ensures.value c.deref-4.ensures.value c.deref-5.ensures.value c.all_mut-words.ensures.value t c.in-Err.ensures.lacks in
+    let a = c.in-Err.ensures.inside in
+    let b = ap length c.deref-2.ensures.value in
+    let d = c.self.invariant.0.set.placed.nodes in
+    let e = ap length c.self.invariant.0.instances in
+    let i = fault_at _ _ c.in-Err.fault.block c.index.result.now (omega (arith, a, b, d, e)) c.self.invariant.0.instances c.index.ensures in
+    let named = first_lacks c.args.now c.tick_all.new.words c.in-Err.fault.block c.index.result.now c.self.invariant.0.set i lack in
+    subst (λ x. FirstLacks x.net c.args.now (refill (length c.self.inside.region.words) c.self.inside.region.words c.tick_all.new.words) c.index.result.now) c.self.view_is
+    (subst (λ w. FirstLacks c.self.inside.parts.plan.net c.args.now w c.index.result.now) (sym (refill_all c.self.inside.region.words c.tick_all.new.words size)) named)
 
 pub returns-in-Ok-clause-step : goal.returns-in-Ok-clause-step
 returns-in-Ok-clause-step g c =

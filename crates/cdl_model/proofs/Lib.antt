@@ -1,0 +1,11 @@
+pub mod Tests
+pub mod Places
+pub mod Netting
+pub mod Joined
+pub mod Sized
+pub mod Rows
+pub mod Keyed
+pub mod Unique
+pub mod Listed
+pub mod Corresponding
+pub mod Declaring
