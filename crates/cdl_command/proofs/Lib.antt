@@ -2,9 +2,11 @@ pub mod DueFacts
 pub mod TextFacts
 pub mod ModelFacts
 mod FormedTrees
-pub mod RootFacts
-pub mod TableFacts
-pub mod TickFacts
-pub mod RunFacts
-pub mod AnswerFacts
 pub mod ReadFacts
+pub mod TableFacts
+pub mod NetFacts
+pub mod PlanFacts
+pub mod WorkFacts
+pub mod AnswerFacts
+pub mod OneText
+pub mod OneAnswer

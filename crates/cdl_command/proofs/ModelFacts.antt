@@ -9,11 +9,11 @@ use Rattle.cdl_source.specs.Outside.{due_after, DueBeginsWith, IsNextDue}
 use Rattle.cdl_source.specs.declared.place.Place.{Place}
 use Rattle.cdl_lex.specs.Rules.Breaks.{too_long}
 use Rattle.cdl_tree.specs.declared.class.FileTree.{FileTree}
-use Rattle.cdl_command.specs.inner.Reads.{AreShort, due_behind}
-use Rattle.cdl_command.specs.inner.Stops.{Stops, StopsInTexts, RefusesText}
+use Rattle.cdl_command.specs.inner.Reads.{AreShort, StopsInTexts, RefusesText, due_behind}
+use Rattle.cdl_command.specs.inner.Stops.{Stops}
 use Rattle.cdl_command.specs.declared.stop.Refusal.{Refusal}
 use Rattle.cdl_command.specs.declared.stop.Stop.{Stop}
-use Rattle.cdl_command.specs.declared.stop.Stop.TheVariants.{Refused, ReadFault, OutOfMemory}
+use Rattle.cdl_command.specs.declared.stop.Stop.TheVariants.{Refused, RangeFault, ReadFault, WriteFault, OutOfMemory}
 use Rattle.cdl_command.specs.Texts.{Contents, Holds, FirstHold, HasTree, HaveTrees, BreaksText}
 
 pub hold_more : (contents : Contents) (names texts : List (List ℕ)) (name text : List ℕ) → FirstHold contents names texts → slice_get names (length texts) ≡ Some name → Holds contents name text
@@ -104,7 +104,9 @@ named_at f words i word name within is named =
 
 risen : (here rose : Type 0) (refuses : Refusal → Type 0) (s : Stop) → (here → rose) → Stops here refuses s → Stops rose refuses s
 risen here rose refuses (Refused r) up cause = cause
+risen here rose refuses (RangeFault time path) up cause = absurd cause
 risen here rose refuses ReadFault up cause = up cause
+risen here rose refuses WriteFault up cause = absurd cause
 risen here rose refuses OutOfMemory up cause = tt
 
 -- what is known of the texts so far, and of the file that was begun last

@@ -10,7 +10,8 @@ use Rattle.cdl_table.specs.Broken.{IsFirstBroken}
 use Rattle.cdl_table.specs.IsTable.{IsTable}
 use Rattle.cdl_table.specs.Rows.{table_records}
 use Rattle.cdl_table.specs.TableRow.{TableRow}
-use Rattle.cdl_command.specs.inner.Stops.{RefusesTable, refusal_of}
+use Rattle.cdl_command.specs.inner.Reads.{RefusesTable}
+use Rattle.cdl_command.specs.inner.Stops.{refusal_of}
 use Rattle.cdl_command.specs.Tables.{HoldsRows, BreaksTable, IsOnlyFirst}
 use Rattle.cdl_command.specs.Texts.{Contents, Holds}
 use Rattle.cdl_job.specs.declared.outcome.Spot.TheVariants.{Cell, Whole}

@@ -16,9 +16,12 @@ use Rattle.cdl_tree.specs.declared.class.FileTree.{FileTree}
 use Rattle.cdl_tree.specs.Terminals.{lexemes}
 use Rattle.cdl_parse.specs.Verdict.{Closes, IsTree}
 use Rattle.cdl_reading.specs.Reading.{word_of}
-use Rattle.cdl_command.specs.inner.Reads.{stop_of}
-use Rattle.cdl_command.specs.inner.Stops.{FaultIsAnswered, Stops, RefusesText, refusal_at}
-use Rattle.cdl_command.specs.Texts.{Contents, IsTreeOf, HasTree}
+use Rattle.cdl_command.specs.inner.Reads.{RefusesBytes, RefusesText, at_place, stop_of}
+use Rattle.cdl_command.specs.inner.Stops.{FaultIsAnswered, Stops}
+use Rattle.cdl_command.specs.declared.stop.Refusal.{Refusal}
+use Rattle.cdl_command.specs.declared.stop.Stop.{Stop}
+use Rattle.cdl_command.specs.declared.stop.Stop.TheVariants as stop
+use Rattle.cdl_command.specs.Texts.{Contents, Holds, IsTreeOf, HasTree}
 use Rattle.cdl_command.proofs.ReadFacts.{longer}
 
 -- the tokens that were found close into the tree
@@ -55,11 +58,11 @@ first_too_long text long =
 
 -- the place behind the longest text stands in the head's line and column
 at_head : (file : ℕ) (head text : List ℕ) → length head ≡ LONGEST_MODEL → head ≡ take LONGEST_MODEL text
-    → refusal_at MODEL_TOO_LONG (record { file = file; byte = LONGEST_MODEL }) head ≡ refusal_at MODEL_TOO_LONG (record { file = file; byte = LONGEST_MODEL }) text
+    → at_place MODEL_TOO_LONG (record { file = file; byte = LONGEST_MODEL }) head ≡ at_place MODEL_TOO_LONG (record { file = file; byte = LONGEST_MODEL }) text
 at_head file head text l k =
     let same : take LONGEST_MODEL head ≡ take LONGEST_MODEL text = take_all LONGEST_MODEL head (omega (arith, l)) ∙ k in
-    let P : List ℕ → Type 0 = λ front. refusal_at MODEL_TOO_LONG (record { file = file; byte = LONGEST_MODEL }) head
-    ≡ (record { rule = MODEL_TOO_LONG; spot = (refusal_at MODEL_TOO_LONG (record { file = file; byte = LONGEST_MODEL }) text).spot; line = line_of front; column = column_of front }) in
+    let P : List ℕ → Type 0 = λ front. at_place MODEL_TOO_LONG (record { file = file; byte = LONGEST_MODEL }) head
+    ≡ (record { rule = MODEL_TOO_LONG; spot = (at_place MODEL_TOO_LONG (record { file = file; byte = LONGEST_MODEL }) text).spot; line = line_of front; column = column_of front }) in
     subst P same refl
 
 pub not_whole_read : (contents : Contents) (name : List ℕ) (file : ℕ) (e : ReadError) (rose : Type 0) → (e ≡ Failed → rose) → (IsAbsent contents name → e ≡ Failed)
@@ -69,11 +72,13 @@ not_whole_read contents name file (TooLarge head) rose failed absent keeps =
     let t = longer LONGEST_MODEL contents name head (λ none. absurd (cc (absent none))) keeps in
     record {
       text = t.0;
-      rule = MODEL_TOO_LONG;
-      place = record { file = file; byte = LONGEST_MODEL };
       holds = t.1.holds;
-      broken = inl (refl, first_too_long t.0 t.1.long);
-      refusal_is = at_head file head t.0 keeps.0 t.1.head_is;
+      refuses = record {
+        rule = MODEL_TOO_LONG;
+        place = record { file = file; byte = LONGEST_MODEL };
+        broken = inl (refl, first_too_long t.0 t.1.long);
+        refusal_is = at_head file head t.0 keeps.0 t.1.head_is;
+      };
     }
 not_whole_read contents name file OutOfMemory rose failed absent keeps = tt
 
@@ -82,3 +87,22 @@ pub fault_answered : (before now file : ℕ) (e : ReadError) → ReadFaultIsAnsw
 fault_answered before now file Failed h = tt
 fault_answered before now file (TooLarge head) h = h
 fault_answered before now file OutOfMemory h = h
+
+-- a stop of work that begins no file leaves their faults
+pub calm : (refuses : Refusal → Type 0) (before now : ℕ) (s : Stop) → now ≡ before → Stops ⊥ refuses s → FaultIsAnswered before now s
+calm refuses before now (stop.Refused r) same h = same
+calm refuses before now (stop.RangeFault time path) same h = same
+calm refuses before now stop.ReadFault same h = tt
+calm refuses before now stop.WriteFault same h = same
+calm refuses before now stop.OutOfMemory same h = same
+
+-- a text that is refused is one that its name holds
+pub text_refused : (contents : Contents) (name text : List ℕ) (file : ℕ) (rose : Type 0) (s : Stop) → Holds contents name text → Stops ⊥ (RefusesBytes file text) s → Stops rose (RefusesText contents name file) s
+text_refused contents name text file rose (stop.Refused r) holds h = record { text = text; holds = holds; refuses = h }
+text_refused contents name text file rose (stop.RangeFault time path) holds h = absurd h
+text_refused contents name text file rose stop.ReadFault holds h = absurd h
+text_refused contents name text file rose stop.WriteFault holds h = absurd h
+text_refused contents name text file rose stop.OutOfMemory holds h = tt
+
+pub fault_behind : (before mid now : ℕ) (s : Stop) → mid ≡ before → FaultIsAnswered mid now s → FaultIsAnswered before now s
+fault_behind before mid now s same h = subst (λ n. FaultIsAnswered n now s) same h

@@ -1,7 +1,7 @@
 pub mod Texts
-pub mod Roots
+pub mod Sequences
+pub mod Breaks
 pub mod Tables
-pub mod Runs
 pub mod Verdict
 pub mod Answer
 pub mod Top

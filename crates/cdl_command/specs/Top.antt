@@ -13,7 +13,7 @@ use Rattle.cdl_command.specs.declared.stop.Ended.{Ended}
 -- A job begins files in the order of work, and none where its verb isn't built.
 abbrev pub BeginsInOrder : Task → Contents → ℕ → ℕ → Type 0
 BeginsInOrder task contents before now =
-    MatchOption (built task) (now ≡ before) (λ run. (count : ℕ) × (now ≡ before + count) × InOrder contents run count)
+    MatchOption (built task) (now ≡ before) (λ work. (count : ℕ) × (now ≡ before + count) × InOrder contents work count)
 
 -- The work of a job: what stands on standard output, the place of a refusal, and each fault with its cause.
 pub record Works (task : Task) (contents : Contents) (before now : ℕ) (read_rose write_rose : Type 0) (ended : Ended) (old new : Option (List ℕ)) : Type 0 where

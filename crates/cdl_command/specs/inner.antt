@@ -1,3 +1,4 @@
-pub mod Reads
+-- What private contracts cite.
 pub mod Stops
-pub mod Ticks
+pub mod Reads
+pub mod Plans

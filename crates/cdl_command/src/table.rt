@@ -4,7 +4,10 @@ ghost use Rattle.std.specs.Io.KnownBytes.{IsAtEnd};
 ghost use Rattle.cdl_source.specs.Causes.{Rose};
 ghost use Rattle.cdl_source.specs.Outside.{IsNextDue, due_after};
 ghost use Rattle.cdl_table.specs.Values.{HaveValues};
-ghost use Rattle.cdl_command.specs.inner.Stops.{FaultIsAnswered, Stops, RefusesTable};
+ghost use Rattle.cdl_table.specs.IsTable.{before_all};
+ghost use Rattle.cdl_trace.specs.Rising.{Rise};
+ghost use Rattle.cdl_command.specs.inner.Reads.{RefusesTable};
+ghost use Rattle.cdl_command.specs.inner.Stops.{FaultIsAnswered, Stops};
 ghost use Rattle.cdl_command.specs.Tables.{HoldsRows};
 
 use crate::stop::{Stop, refusal_of};
@@ -12,6 +15,7 @@ use cdl_job::Spot;
 use cdl_source::rules::TABLE_TOO_LONG;
 use cdl_source::{Files, LONGEST_TABLE, List, ReadError, read_whole};
 use cdl_table::{Column, Table, TableFault};
+use cdl_trace::times_rise;
 use std::alloc::Global;
 
 /// Reads a table of these inputs.
@@ -29,6 +33,7 @@ pub(crate) fn read_table<F: Files>(
     ensures later { F.faults files.old ≤ F.faults files.new }
     ensures ok { IfOk result (HoldsRows (F.contents files.old) name.now inputs.now) }
     ensures values { IfOk result (HaveValues inputs.now) }
+    ensures rising { IfOk result (Rise before_all) }
     ensures end { OnOk result (IsAtEnd (F.rest files.new)) }
     ensures err { IfErr result (Stops (Rose (F.faults files.old) (F.faults files.new)) (RefusesTable (F.contents files.old) name.now inputs.now)) }
     ensures kept { OnOk result (F.faults files.new ≡ F.faults files.old) }
@@ -42,6 +47,7 @@ pub(crate) fn read_table<F: Files>(
             return Err(Stop::Refused(refusal_of(TABLE_TOO_LONG, Spot::Whole)));
         }
     };
+    times_rise();
     match Table::check(alloc, text.bytes(), inputs) {
         Ok(table) => Ok(table),
         Err(TableFault::OutOfMemory) => Err(Stop::OutOfMemory),

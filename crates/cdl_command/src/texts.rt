@@ -1,12 +1,14 @@
 // Reading the models of a job.
 ghost use Rattle.std.specs.Prelude.{◌≡◌, ◌≤◌, ◌<◌, ◌+◌, ◌-◌, ◌^◌, IfOk, IfErr, OnOk, length, map, string_bytes};
+ghost use Rattle.std.specs.Io.KnownBytes.{IsAtEnd};
 ghost use Rattle.cdl_source.specs.Causes.{Rose};
 ghost use Rattle.cdl_source.specs.Outside.{IsNextDue, due_after, DueBeginsWith};
 ghost use Rattle.cdl_command.specs.inner.Reads as spec;
-ghost use Rattle.cdl_command.specs.inner.Stops.{FaultIsAnswered, Stops, StopsInTexts, RefusesText};
+ghost use Rattle.cdl_command.specs.inner.Stops.{FaultIsAnswered, Stops};
 ghost use Rattle.cdl_command.specs.Texts.{Holds, HasTree};
 
-use crate::stop::{Refusal, Stop, refusal_at};
+use crate::stop::{Stop, refusal_at};
+use cdl_job::Spot;
 use cdl_lex::{LexFault, lex};
 use cdl_parse::{ParseFault, parse};
 use cdl_source::rules::MODEL_TOO_LONG;
@@ -15,14 +17,6 @@ use cdl_source::{
 };
 use cdl_tree::FileTree;
 use std::alloc::Global;
-
-/// Why a text has no tree.
-#[derive(Clone, Copy)]
-pub(crate) enum TextFault {
-    /// It breaks this rule first, here.
-    Rule { rule: u32, place: Place },
-    OutOfMemory,
-}
 
 /// A model: its text and its tree.
 #[derive(Drop)]
@@ -38,20 +32,29 @@ pub(crate) struct Models {
     pub(crate) trees: List<FileTree>,
 }
 
+// A broken rule at a place of this text.
+fn refused(rule: u32, place: Place, text: &[u8]) -> Stop
+    requires { length text.now ≤ LONGEST_MODEL }
+    ensures { result ≡ Stop.Refused (spec.at_place rule place text.now) }
+{
+    Stop::Refused(refusal_at(rule, Spot::Source(place), place.byte, text))
+}
+
 /// The tree of the text of this file.
-fn tree_of(alloc: Global, file: u32, bytes: &[u8]) -> Result<FileTree, TextFault>
+fn tree_of(alloc: Global, file: u32, bytes: &[u8]) -> Result<FileTree, Stop>
+    requires { length bytes.now ≤ LONGEST_MODEL }
     ensures ok { IfOk result (HasTree bytes.now) }
-    ensures err { IfErr result (spec.NamesFirst file bytes.now) }
+    ensures err { IfErr result (Stops ⊥ (spec.RefusesBytes file bytes.now)) }
 {
     let tokens = match lex(alloc, file, bytes) {
         Ok(tokens) => tokens,
-        Err(LexFault::OutOfMemory) => return Err(TextFault::OutOfMemory),
-        Err(LexFault::Rule { rule, place }) => return Err(TextFault::Rule { rule, place }),
+        Err(LexFault::OutOfMemory) => return Err(Stop::OutOfMemory),
+        Err(LexFault::Rule { rule, place }) => return Err(refused(rule, place, bytes)),
     };
     match parse(alloc, &tokens) {
         Ok(tree) => Ok(tree),
-        Err(ParseFault::OutOfMemory) => Err(TextFault::OutOfMemory),
-        Err(ParseFault::Rule { rule, place }) => Err(TextFault::Rule { rule, place }),
+        Err(ParseFault::OutOfMemory) => Err(Stop::OutOfMemory),
+        Err(ParseFault::Rule { rule, place }) => Err(refused(rule, place, bytes)),
     }
 }
 
@@ -67,7 +70,7 @@ fn not_whole(e: ReadError, file: u32) -> Stop
                 file,
                 byte: LONGEST_MODEL as u32,
             };
-            Stop::Refused(refusal_at(MODEL_TOO_LONG, place, head.bytes()))
+            refused(MODEL_TOO_LONG, place, head.bytes())
         }
         ReadError::OutOfMemory => Stop::OutOfMemory,
     }
@@ -83,7 +86,8 @@ fn read_model<F: Files>(alloc: Global, files: &mut F, name: &str, file: u32) -> 
     ensures later { F.faults files.old ≤ F.faults files.new }
     ensures holds { IfOk result (λ m. Holds (F.contents files.old) name.now m.text) }
     ensures tree { IfOk result (λ m. HasTree m.text m.tree) }
-    ensures err { IfErr result (Stops (Rose (F.faults files.old) (F.faults files.new)) (RefusesText (F.contents files.old) name.now file)) }
+    ensures end { OnOk result (IsAtEnd (F.rest files.new)) }
+    ensures err { IfErr result (Stops (Rose (F.faults files.old) (F.faults files.new)) (spec.RefusesText (F.contents files.old) name.now file)) }
     ensures kept { OnOk result (F.faults files.new ≡ F.faults files.old) }
     ensures answered { IfErr result (FaultIsAnswered (F.faults files.old) (F.faults files.new)) }
 {
@@ -91,13 +95,8 @@ fn read_model<F: Files>(alloc: Global, files: &mut F, name: &str, file: u32) -> 
         Ok(text) => text,
         Err(e) => return Err(not_whole(e, file)),
     };
-    match tree_of(alloc, file, text.bytes()) {
-        Ok(tree) => Ok(Model { text, tree }),
-        Err(TextFault::OutOfMemory) => Err(Stop::OutOfMemory),
-        Err(TextFault::Rule { rule, place }) => {
-            Err(Stop::Refused(refusal_at(rule, place, text.bytes())))
-        }
-    }
+    let tree = tree_of(alloc, file, text.bytes())?;
+    Ok(Model { text, tree })
 }
 
 /// Reads the models of these names, each only where those before it break no rule of texts.
@@ -114,7 +113,8 @@ pub(crate) fn read_models<F: Files>(
     ensures ok { IfOk result (spec.AreModels (F.contents files.old) (map string_bytes names.now)) }
     ensures begun { OnOk result (F.begun files.new ≡ F.begun files.old + length names.now) }
     ensures due { OnOk result (F.due files.new ≡ spec.due_behind (length names.now) (F.due files.old)) }
-    ensures err { IfErr result (StopsInTexts (F.contents files.old) (map string_bytes names.now) (F.begun files.old) (F.begun files.new) (Rose (F.faults files.old) (F.faults files.new))) }
+    ensures end { OnOk result (0 < length names.now → IsAtEnd (F.rest files.new)) }
+    ensures err { IfErr result (spec.StopsInTexts (F.contents files.old) (map string_bytes names.now) (F.begun files.old) (F.begun files.new) (Rose (F.faults files.old) (F.faults files.new))) }
     ensures kept { OnOk result (F.faults files.new ≡ F.faults files.old) }
     ensures answered { IfErr result (FaultIsAnswered (F.faults files.old) (F.faults files.new)) }
 {

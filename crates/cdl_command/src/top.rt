@@ -1,15 +1,16 @@
 // The top call.
-ghost use Rattle.std.specs.Prelude.{◌≡◌, ◌≢◌, ◌⊎◌, ◌^◌, ◌≤◌, ◌<◌, map, string_bytes, None};
+ghost use Rattle.std.specs.Prelude.{◌≡◌, ◌≢◌, ◌⊎◌, ◌^◌, ◌≤◌, ◌<◌, ℕ, List, map, string_bytes, None, Some};
 ghost use Rattle.std.specs.Io.KnownBytes.{IsAtEnd};
 ghost use Rattle.cdl_source.specs.Causes.{Rose};
-ghost use Rattle.cdl_source.specs.Outside.{DueBeginsWith};
-ghost use Rattle.cdl_job.specs.Job.{task_of, task_of_job};
-ghost use Rattle.cdl_job.specs.Outcome.{files_of, HasFewModels};
-ghost use Rattle.cdl_command.specs.Answer.{DueOf, Result};
+ghost use Rattle.cdl_source.specs.Outside.{Contents, DueBeginsWith, written_after};
+ghost use Rattle.cdl_job.specs.Job.{Task, task_of, task_of_job};
+ghost use Rattle.cdl_job.specs.Outcome.{files_of, HasFewModels, HasSomeModels};
+ghost use Rattle.cdl_command.specs.Answer.{Answers, DueOf, Result};
 ghost use Rattle.cdl_command.specs.Top.{Works, OutAfterWords, ErrAfterWords, BegunFor};
 
-use crate::run::run;
-use crate::stop::{Ended, refused_root, stopped};
+use crate::laws::one_answer;
+use crate::stop::{Ended, finished, refused_root};
+use crate::work::{check, run};
 use cdl_job::{Job, Outcome, report, usage, words as job_of};
 use cdl_source::rules::NOT_BUILT;
 use cdl_source::{Files, Sink};
@@ -34,6 +35,12 @@ pub fn command<F: Files, O: Sink, E: Sink>(
     ensures headline { ¬ Rose (F.faults files.old) (F.faults files.new) → ¬ Rose (O.faults out.old) (O.faults out.new)
         → ¬ Rose (E.faults err.old) (E.faults err.new) → result ≢ Outcome.OutOfMemory
         → Result (task_of (map string_bytes words.now)) (F.contents files.old) result (O.written out.old) (O.written out.new) }
+
+    // So it is Done with the text of a job that can be done: where no rule is broken, and no tick of the table has a fault.
+    ensures complete { (task : Task) (held : Contents) (text : List ℕ) → task_of (map string_bytes words.now) ≡ Some task → F.contents files.old ≡ Some held
+        → Answers task (Some held) Outcome.Done text → ¬ Rose (F.faults files.old) (F.faults files.new) → ¬ Rose (O.faults out.old) (O.faults out.new)
+        → ¬ Rose (E.faults err.old) (E.faults err.new) → result ≢ Outcome.OutOfMemory
+        → (result ≡ Outcome.Done) × (O.written out.new ≡ written_after (O.written out.old) text) }
 
     // Each answer has its cause.
     ensures usage { result ≡ Outcome.Usage → task_of (map string_bytes words.now) ≡ None }
@@ -65,6 +72,7 @@ pub fn command<F: Files, O: Sink, E: Sink>(
     match job_of(words) {
         None => usage(err),
         Some(job) => {
+            one_answer();
             let Ended {
                 outcome,
                 line,
@@ -78,6 +86,7 @@ pub fn command<F: Files, O: Sink, E: Sink>(
 // All but the text on `err`.
 fn work<F: Files, O: Sink>(alloc: Global, job: Job<'_>, files: &mut F, out: &mut O) -> Ended
     requires few { HasFewModels job }
+    requires some { HasSomeModels job }
     requires room { F.begun files.old ≤ 2 ^ 32 }
     requires due { DueBeginsWith (F.due files.old) (files_of (task_of_job job)) }
     ensures works { Works (task_of_job job.entry) (F.contents files.old) (F.begun files.old) (F.begun files.new)
@@ -91,15 +100,14 @@ fn work<F: Files, O: Sink>(alloc: Global, job: Job<'_>, files: &mut F, out: &mut
     ensures write_fault { O.faults out.old < O.faults out.new → result.outcome ≡ Outcome.WriteFault }
 {
     match job {
+        Job::Check { class, models } => finished(check(alloc, class, models, files, out)),
         Job::Run {
             class,
             table,
             models,
-        } => run(alloc, class, table, models, files, out),
-        Job::Check { .. }
-        | Job::Cxf { .. }
-        | Job::CheckCxf { .. }
-        | Job::RunCxf { .. }
-        | Job::Sample { .. } => stopped(refused_root(alloc, NOT_BUILT)),
+        } => finished(run(alloc, class, table, models, files, out)),
+        Job::Cxf { .. } | Job::CheckCxf { .. } | Job::RunCxf { .. } | Job::Sample { .. } => {
+            finished(Err(refused_root(alloc, NOT_BUILT)))
+        }
     }
 }

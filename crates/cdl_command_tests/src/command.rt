@@ -45,8 +45,7 @@ const GATES: &str =
     "block M|  &Interfaces.BooleanInput u1;|  &Interfaces.BooleanInput u2;|  &Interfaces.BooleanOutput y;|  &Logical.Not n;|  &Logical.And a;|  &Logical.Or o;|equation|  connect(u1, n.u);|  connect(n.y, a.u1);|  connect(u2, a.u2);|  connect(u1, o.u1);|  connect(a.y, o.u2);|  connect(o.y, y);|end M;|";
 
 // The words, the models m.mo and s.mo, the table t.csv, and then what the job ends with: the code, and the texts on the two
-// sinks. First what runs, and ends with a fault; then the rules of texts, those of classes, what is not built, and what
-// files are begun.
+// sinks. First what runs, and ends with a fault; then the rules of texts, those of classes, and what files are begun.
 const CASES: &str =
     "run M t.csv m.mo s.mo~block M|  &Interfaces.BooleanInput u1;|  &Interfaces.BooleanInput u2;|  &Interfaces.BooleanOutput y;|  &Logical.Not n;|  &Logical.And a;|  &Logical.Or o;|equation|  connect(u1, n.u);|  connect(n.y, a.u1);|  connect(u2, a.u2);|  connect(u1, o.u1);|  connect(a.y, o.u2);|  connect(o.y, y);|end M;|~package Q end Q;~time,u1,u2|0,false,false|1000,false,true|2000,true,false|3000,true,true|>0~time,y|0,false|1000,true|2000,true|3000,true|~\n\
     run M t.csv m.mo~block M end M;~~time|7|>0~time|7|~\n\
@@ -72,17 +71,56 @@ const CASES: &str =
     run N none.csv m.mo~block M end M;~~time,u1,u2|>1~~#: C14 no such block|\n\
     run Q none.csv m.mo s.mo~block M end M;~package Q end Q;~time,u1,u2|>1~~#: C14 no such block|\n\
     run E none.csv m.mo s.mo~block M end M;~type E = enumeration(a, b);~time,u1,u2|>1~~#: C14 no such block|\n\
-    run M none.csv m.mo~block M &Logical.Pre p; end M;~~time,u1,u2|>1~~#: C9 not built yet|\n\
-    run M none.csv m.mo s.mo~block M N n; end M;~block N end N;~time,u1,u2|>1~~#: C9 not built yet|\n\
-    run M none.csv m.mo~block M parameter Real k = 1; end M;~~time,u1,u2|>1~~#: C9 not built yet|\n\
-    run M none.csv m.mo~block M equation for i in 1:2 loop end for; end M;~~time,u1,u2|>1~~#: C9 not built yet|\n\
+    run M none.csv m.mo~block M &Logical.Pre p; end M;~~time,u1,u2|>1~~#p.u: C46 no source|\n\
+    run M none.csv m.mo s.mo~block M N n; end M;~block N end N;~time,u1,u2|>4~~read fault|\n\
+    run M none.csv m.mo~block M parameter Real k = 1; end M;~~time,u1,u2|>4~~read fault|\n\
+    run M none.csv m.mo~block M equation for i in 1:2 loop end for; end M;~~time,u1,u2|>4~~read fault|\n\
     run M none.csv m.mo~block M equation for i in 1:2 loop connect(a, b) end for; end M;~~time,u1,u2|>1~~m.mo:1:50: C7 syntax|\n\
     run M none.csv m.mo~block M equation for i in 1:2:3 loop end for; end M;~~time,u1,u2|>1~~m.mo:1:30: C7 syntax|\n\
-    check M m.mo~block M end M;~~time,u1,u2|>1~~#: C9 not built yet|\n\
+    cxf M m.mo~block M end M;~~time,u1,u2|>1~~#: C9 not built yet|\n\
     sample 2000~~~time,u1,u2|>1~~#: C9 not built yet|\n\
     run M m.mo m.mo~block M end M;~~time,u1,u2|>1~~m.mo:1:1: C62 wrong header|\n\
     run M none.csv m.mo~block M end M;~~time,u1,u2|>4~~read fault|\n\
     run M t.csv none.mo~~~time,u1,u2|>4~~read fault|";
+
+// The same of the rules of instances, statements, wires, elements and loops, one by one and two at once; and of runs of blocks in
+// blocks.
+const RULES: &str = "check M m.mo~block M end M;~~>0~ok|~\n\
+    check M m.mo~block M &Logical.Not n; &Logical.Pre p; equation connect(n.y, p.u); connect(p.y, n.u); end M;~~>0~ok|~\n\
+    check M m.mo s.mo~block M N n; end M;~block N end N;~>0~ok|~\n\
+    check M m.mo~block M &Logical.Not n[200,101]; end M;~~>1~~#n[199,2]: C20 too many or too deep|\n\
+    check M m.mo~block M M m; end M;~~>1~~#m: C21 block contains itself|\n\
+    check M m.mo~block M &Logical.Not n(x=1); end M;~~>1~~#n: C22 nothing to modify|\n\
+    check M m.mo~block M parameter Real p(min=0, min=1)=1; end M;~~>1~~#p: C23 modified twice|\n\
+    check M m.mo s.mo~block M K b(k=2); end M;~block K final parameter Real k=1; end K;~>1~~#b.k: C24 modifies a final value|\n\
+    check M m.mo~block M parameter Boolean p={true} and 1/0<1; end M;~~>1~~#p: C25 wrong shape|\n\
+    check M m.mo~block M parameter Integer p=min(1, 2.5); end M;~~>1~~#p: C26 wrong type|\n\
+    check M m.mo~block M parameter Real p=foo(1/0); end M;~~>1~~#p: C27 unknown name or function|\n\
+    check M m.mo~block M &Interfaces.RealInput u[5000,1/0]; end M;~~>1~~#u: C28 size out of range|\n\
+    check M m.mo~block M parameter Real a=b+1/0; parameter Real b=a; end M;~~>1~~#a: C29 parameters depend too deeply|\n\
+    check M m.mo~block M parameter Real p={1}+1/0; end M;~~>1~~#p: C30 no value|\n\
+    check M m.mo~block M parameter Real v[1/0]; end M;~~>1~~#v: C31 parameter without a value|\n\
+    check M m.mo~block M &Integers.MultiSum s(nin=257); end M;~~>1~~#s: C32 parameter out of its condition|\n\
+    check M m.mo~block M &Interfaces.RealInput u(unit=\"aaaaaaaaaaaaaaaaaaaaaaaaaaaaaaaaaaaaaaaaaaaaaaaaaaaaaaaaaaaaaaaaa\"); end M;~~>1~~#u: C38 unit too long|\n\
+    check M m.mo~block M equation for i in -2147483647:2147483647 loop connect(x, y); end for; end M;~~>1~~m.mo:1:18 in #: C39 too many turns|\n\
+    check M m.mo~block M &Interfaces.RealOutput y; equation connect(y, z); end M;~~>1~~m.mo:1:70 in #: C40 no such connector|\n\
+    check M m.mo~block M &Interfaces.RealInput u[2]; equation connect(u[3:1], u); end M;~~>1~~m.mo:1:72 in #: C41 wrong subscript|\n\
+    check M m.mo~block M &Interfaces.RealInput u[2]; &Interfaces.RealOutput y; equation connect(u[1:1], y); end M;~~>1~~m.mo:1:124 in #: C42 shapes differ|\n\
+    check M m.mo~block M &Interfaces.RealInput u; equation connect(u, u); end M;~~>1~~#u to #u: C43 two sources or two sinks joined|\n\
+    check M m.mo~block M &Interfaces.BooleanInput a; &Interfaces.IntegerOutput y; &Interfaces.BooleanInput b; &Interfaces.RealOutput z; equation connect(a, y); connect(a, b); end M;~~>1~~#a to #y: C44 types differ|\n\
+    check M m.mo~block M &Interfaces.RealInput u; &Interfaces.RealOutput y; equation connect(u, y); connect(y, u); end M;~~>1~~#y: C45 more than one source|\n\
+    check M m.mo~block M &Interfaces.RealInput u; &Interfaces.RealOutput y; &Interfaces.RealOutput z; equation connect(u, z); connect(u, z); end M;~~>1~~#y: C46 no source|\n\
+    check M m.mo~block M &Interfaces.RealInput u(unit=\"K\"); &Interfaces.RealOutput y(unit=\"C\"); equation connect(u, y); end M;~~>1~~#u to #y: C48 units differ|\n\
+    check M m.mo~block M &Logical.And a; &Logical.Not n; equation connect(a.y, n.u); connect(n.y, a.u1); connect(n.y, a.u2); end M;~~>1~~#a: C50 loop without a delay|\n\
+    check M m.mo~block M &Logical.Not n; &Reals.Abs r; equation connect(n.y, n.u); end M;~~>1~~#r.u: C46 no source|\n\
+    check M m.mo~block M &Reals.Abs r; &Logical.Not n; equation connect(n.y, n.u); end M;~~>1~~#r.u: C46 no source|\n\
+    check M m.mo~block M &Interfaces.RealOutput y; parameter Real p=1/0; equation connect(y, z); end M;~~>1~~#p: C30 no value|\n\
+    run M t.csv m.mo s.mo~block M &Interfaces.BooleanInput u; &Interfaces.BooleanOutput y; K k[2]; equation connect(u, k[1].u); connect(k[1].y, k[2].u); connect(k[2].y, y); end M;~block K &Interfaces.BooleanInput u; &Interfaces.BooleanOutput y; &Logical.Not n; &Logical.Pre p; equation connect(u, n.u); connect(n.y, p.u); connect(p.y, y); end K;~time,u|0,true|1,false|2,true|3,true|>0~time,y|0,false|1,true|2,true|3,false|~\n\
+    run M t.csv m.mo s.mo~block M parameter Real n=7; K b(k=n); &Interfaces.RealOutput y; equation connect(b.y, y); end M;~block K parameter Real n=1; parameter Real k=0; &Reals.Sources.Constant c(k=k); &Interfaces.RealOutput y; equation connect(c.y, y); end K;~time|0|>0~time,y|0,7|~\n\
+    run M t.csv m.mo s.mo~block M &Interfaces.RealInput u[2]; &Interfaces.RealOutput y[2]; K k[2]; equation connect(u, k.u); connect(k.y, y); end M;~block K &Interfaces.RealInput u; &Interfaces.RealOutput y; &Reals.Sources.Constant c(k=1); &Reals.Divide d; equation connect(c.y, d.u1); connect(u, d.u2); connect(d.y, y); end K;~time,u[1],u[2]|0,4,0.5|1,2,0|2,1,1|>3~time,y[1],y[2]|0,0.25,2|~range fault at 1 in #k[2].d|\n\
+    run M none.csv m.mo~block M &Logical.Not n; equation connect(n.y, n.u); end M;~~>1~~#n: C50 loop without a delay|\n\
+    run M none.csv m.mo~block M &Logical.Not n; &Logical.Pre p; equation connect(n.y, p.u); connect(p.y, n.u); end M;~~>4~~read fault|\n\
+    run M t.csv m.mo~block M &Interfaces.BooleanInput u; end M;~~time|0|>1~~t.csv:1:2: C62 wrong header|";
 
 // Words that are no job.
 const NO_JOBS: &str = "sample 007\n\
@@ -314,6 +352,10 @@ fn failing_calls(words: &str) -> Result<Devices, Fail> {
 fn jobs_end_so(rt: HostRuntime) -> Result<(), Fail> {
     let alloc = rt.alloc();
     for line in CASES.lines() {
+        let (case, want) = line.split_once('>').ok_or("no end")?;
+        assert!(rt; ends_with(alloc, case, want, SOUND)?, "{line}");
+    }
+    for line in RULES.lines() {
         let (case, want) = line.split_once('>').ok_or("no end")?;
         assert!(rt; ends_with(alloc, case, want, SOUND)?, "{line}");
     }

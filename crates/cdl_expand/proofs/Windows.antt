@@ -25,17 +25,17 @@ use Rattle.cdl_model.specs.Names.{ElementName}
 use Rattle.cdl_model.specs.Networks.{parent_path}
 use Rattle.cdl_model.specs.Parts.{own, by_instance}
 use Rattle.cdl_model.specs.NetOf.{body_of, instance_number, net_instance, net_element}
-use Rattle.cdl_expand.specs.Placed.{IsPlaced, instances_seen, elements_seen, unfolded}
+use Rattle.cdl_expand.proofs.Placed.{IsPlaced, instances_seen, elements_seen, unfolded}
 use Rattle.cdl_expand.specs.inner.Numbered.{IsBoundary, at_number, at_numbers, numbered, with_window}
 use Rattle.cdl_expand.proofs.Grouped.{Rises, of, own_group, place, sorted_elements, stays_in, unequal}
 
 -- ---- places between instances
 
-count_none : (f : Element → Bool) (es : List Element) → ((x : ℕ) (d : Element) → x < length es → f (slice_index_or es x d) ≡ false) → count f es ≡ 0
+pub count_none : (f : Element → Bool) (es : List Element) → ((x : ℕ) (d : Element) → x < length es → f (slice_index_or es x d) ≡ false) → count f es ≡ 0
 count_none f [] h = refl
 count_none f (e ∷ es) h = ap (λ b. cond b (suc (count f es)) (count f es)) (h 0 e (omega arith)) ∙ count_none f es (λ x d l. h (suc x) d (omega (arith, l)))
 
-abbrev before_it : ℕ → Element → Bool
+abbrev pub before_it : ℕ → Element → Bool
 before_it i e = nat_lt e.instance i
 
 pub count_before : (es : List Element) (i k : ℕ) → IsBoundary es i k → count (before_it i) es ≡ k
@@ -54,7 +54,7 @@ added b c m n (inl h) d e = ap (λ t. cond t (suc (m + n)) (m + n)) (e ∙ ap (�
 added b c m n (inr (inl h)) d e = ap (λ t. cond t (suc (m + n)) (m + n)) (e ∙ ap (λ t. cond t true c) h.0 ∙ h.1) ∙ (let q : suc (m + n) ≡ m + suc n = omega arith in q) ∙ sym (ap (λ t. cond t (suc m) m + cond c (suc n) n) h.0 ∙ ap (λ t. m + cond t (suc n) n) h.1)
 added b c m n (inr (inr h)) d e = ap (λ t. cond t (suc (m + n)) (m + n)) (e ∙ ap (λ t. cond t true c) h.0 ∙ h.1) ∙ sym (ap (λ t. cond t (suc m) m + cond c (suc n) n) h.0 ∙ ap (λ t. m + cond t (suc n) n) h.1)
 
-up_to : (es : List Element) (i : ℕ) → count (before_it (i + 1)) es ≡ count (before_it i) es + count (of i) es
+pub up_to : (es : List Element) (i : ℕ) → count (before_it (i + 1)) es ≡ count (before_it i) es + count (of i) es
 up_to [] i = refl
 up_to (e ∷ es) i = ap (λ z. cond (before_it (i + 1) e) (suc z) z) (up_to es i)
     ∙ added (before_it i e) (of i e) (count (before_it i) es) (count (of i) es) cases (before_it (i + 1) e) is
@@ -102,7 +102,7 @@ made p o b i j = record { path = p; parent = o; body = b; first = i; count = j }
 
 -- es are the elements of the walk, sorted
 module _ (m : Walked) (ws : List (Wire (List Step) ElementName)) (es : List Element) (p : IsPlaced m) (r : Rises es) (s : (i : ℕ) → filter (of i) es ≡ filter (of i) m.elements) where
-  elements_are : by_instance (instances_seen m) (elements_seen m) ≡ map (seen_element m.instances) es
+  pub elements_are : by_instance (instances_seen m) (elements_seen m) ≡ map (seen_element m.instances) es
   elements_are = sorted_elements m.instances m.elements p.once p.owners es r s
 
   owned_below : (e : Element) → In e es → e.instance < length m.instances

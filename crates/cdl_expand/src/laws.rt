@@ -1,18 +1,24 @@
-// What the walk found, as a model unfolded.
-ghost use Rattle.std.specs.Prelude.{List};
-ghost use Rattle.cdl_network.specs.Network.{Wire};
+// That a model has one expansion or one first broken rule.
+ghost use Rattle.std.specs.Prelude.{◌≡◌, ℕ, List};
+ghost use Rattle.cdl_source.specs.declared.place.Place.{Place};
 ghost use Rattle.cdl_params.specs.Kept.{Model};
 ghost use Rattle.cdl_paths.specs.declared.path.Step.{Step};
-ghost use Rattle.cdl_walk.specs.declared.walked.Walked.{Walked};
-ghost use Rattle.cdl_walk.specs.Instances.{AreAll};
-ghost use Rattle.cdl_model.specs.Apart.{NamesApart};
-ghost use Rattle.cdl_model.specs.Names.{ElementName};
-ghost use Rattle.cdl_model.specs.Parts.{AreParts};
-ghost use Rattle.cdl_expand.specs.Placed.{IsPlaced, unfolded};
+ghost use Rattle.cdl_model.specs.Parts.{Unfolding};
+ghost use Rattle.cdl_expand.specs.Expanded.{BreaksInstance, BreaksStatement, HasInstances, IsExpanded};
 
-/// What the walk found is the model unfolded, with any wires; and where no name is declared twice in a class each instance stands
-/// once, behind the one that it is a part of.
-pub fn walked_is_unfolded()
-    ensures parts { (w : Model) (m : Walked) (ws : List (Wire (List Step) ElementName)) → AreAll w m → AreParts w (unfolded m ws) }
-    ensures placed { (w : Model) (m : Walked) → NamesApart w → AreAll w m → IsPlaced m }
+use cdl_model::parts_are_one;
+
+/// A model has at most one expansion.
+pub fn one_expansion()
+    ensures one { (w : Model) (u v : Unfolding) → IsExpanded w u → IsExpanded w v → u ≡ v }
+{
+    parts_are_one();
+}
+
+/// A model breaks at most one rule first, in one place; and none where it has instances, or an expansion.
+pub fn one_refusal()
+    ensures instance { (w : Model) (r s : ℕ) (p q : List Step) → BreaksInstance w r p → BreaksInstance w s q → (r ≡ s) × (p ≡ q) }
+    ensures statement { (w : Model) (r s : ℕ) (p q : List Step) (a b : Place) → BreaksStatement w r p a → BreaksStatement w s q b → (r ≡ s) × (p ≡ q) × (a ≡ b) }
+    ensures has_instances { (w : Model) (r : ℕ) (p : List Step) → HasInstances w → BreaksInstance w r p → ⊥ }
+    ensures is_expanded { (w : Model) (u : Unfolding) (r : ℕ) (p : List Step) (a : Place) → IsExpanded w u → BreaksStatement w r p a → ⊥ }
 {}

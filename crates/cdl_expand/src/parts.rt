@@ -1,23 +1,14 @@
-// The instances and the elements of a net, from those of the walk.
-ghost use Rattle.std.specs.Prelude.{◌≡◌, ◌+◌, ◌-◌, ◌≤◌, [], map, length, IfOk};
+// The net of what the walk found, and of wires.
+ghost use Rattle.std.specs.Prelude.{◌≡◌, ◌+◌, ◌-◌, ◌≤◌, map, length, IfOk};
 ghost use Rattle.std.specs.List.Sorted.{IsNonDecreasingBy};
 ghost use Rattle.cdl_model.specs.NetOf as net;
-ghost use Rattle.cdl_walk.specs.Texts.{step_text};
-ghost use Rattle.cdl_expand.specs.Placed.{IsPlaced, instances_seen, unfolded};
-ghost use Rattle.cdl_expand.specs.inner.Numbered.{IsBoundary, at_numbers, numbered, with_window};
+ghost use Rattle.cdl_expand.specs.inner.Numbered.{IsBoundary, IsNumbered, at_numbers, numbered, with_window};
 
-use cdl_connect::{Body, NetElement, NetInstance};
+use cdl_connect::{Body, Net, NetElement, NetInstance, RawWire};
 use cdl_paths::Step;
-use cdl_source::{List, MOST_ELEMENTS, OutOfMemory, Text};
-use cdl_walk::{Content, Element, Instance, Point, Walked, by_instance, path_text};
+use cdl_source::{List, MOST_ELEMENTS, OutOfMemory};
+use cdl_walk::{Content, Element, Instance, Point, Walked, path_text, step_text};
 use std::alloc::Global;
-
-/// The instances and the elements of a net.
-#[derive(Drop)]
-pub struct Parts {
-    pub instances: List<NetInstance>,
-    pub elements: List<NetElement>,
-}
 
 fn body_of(content: Content) -> Body
     ensures { result ≡ net.body_of content }
@@ -82,16 +73,6 @@ fn net_instances(
     Ok(all)
 }
 
-// The text of an element in its instance: that of a path of this one step, without the sign of the root.
-fn name_text(alloc: Global, name: Text, indices: List<u32>) -> Result<Text, OutOfMemory>
-    ensures { IfOk result (λ text. text ≡ step_text (record { name = name; indices = indices })) }
-{
-    let mut steps = List::new(alloc);
-    steps.push(Step { name, indices })?;
-    let path = path_text(alloc, steps.items())?;
-    Text::from_bytes(alloc, &path.bytes()[1..])
-}
-
 fn net_element(alloc: Global, element: Element) -> Result<NetElement, OutOfMemory>
     ensures { IfOk result (λ e. e ≡ numbered element) }
 {
@@ -105,7 +86,7 @@ fn net_element(alloc: Global, element: Element) -> Result<NetElement, OutOfMemor
     } = point;
     Ok(NetElement {
         instance,
-        name: name_text(alloc, name, indices)?,
+        name: step_text(alloc, &Step { name, indices })?,
         value_type,
         unit,
         input,
@@ -122,18 +103,18 @@ fn net_elements(alloc: Global, elements: List<Element>) -> Result<List<NetElemen
     Ok(all)
 }
 
-/// The instances and the elements of the net of a model, from what the walk found in it.
-pub fn net_parts(alloc: Global, walked: Walked) -> Result<Parts, OutOfMemory>
-    requires placed { IsPlaced walked }
+/// The net of what the walk found, with these wires between numbers. The elements have to stand by instance.
+pub fn numbered_net(alloc: Global, walked: Walked, wires: List<RawWire>) -> Result<Net, OutOfMemory>
+    requires sorted { IsNonDecreasingBy (λ e. e.instance) walked.elements }
     requires few { length walked.elements ≤ MOST_ELEMENTS }
-    ensures instances { IfOk result (λ p. p.instances ≡ map (net.net_instance (unfolded walked [])) (instances_seen walked)) }
-    ensures elements { IfOk result (λ p. p.elements ≡ map (net.net_element (unfolded walked [])) (unfolded walked []).elements) }
+    ensures { IfOk result (IsNumbered walked wires) }
 {
-    let elements = by_instance(walked.elements)?;
+    let elements = walked.elements;
     let instances = net_instances(alloc, walked.instances, elements.items())?;
     let elements = net_elements(alloc, elements)?;
-    Ok(Parts {
+    Ok(Net {
         instances,
         elements,
+        wires,
     })
 }

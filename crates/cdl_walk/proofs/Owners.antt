@@ -40,6 +40,7 @@ use Rattle.cdl_walk.specs.Faults.{Fault, named}
 use Rattle.cdl_walk.specs.Places.{Here, start, entered, inside}
 use Rattle.cdl_walk.specs.Stations.{connector_station, component_station, block_station, opens, begins, stands, adds, skips, item_event, ForItem, ForElement, InKind, InBlock, InItem, InModel, the_root}
 use Rattle.cdl_walk.specs.Instances.{Seen, Owned, owned_by, Block, Elementary, instances_from, instances_in, elements_in, seen_instance, path_in, path_at, seen_element, IsPartOf, AreAll}
+use Rattle.cdl_walk.specs.Judges.{NoneFails}
 use Rattle.cdl_walk.proofs.Counts.{root_went}
 use Rattle.cdl_walk.proofs.Numbering.{number_push, number_here}
 use Rattle.cdl_walk.proofs.Preorder.{Family, Fine, fine_here, no_fault, all_there, all_things}
@@ -502,3 +503,6 @@ all_of_run w n v =
 
 pub root_all : (w : Model) (h : Here) (c : ClassId) (m n : Walked) → h ≡ start → c.index ≡ w.root → m ≡ nothing → Went step (InBlock w h c) m n → AreAll w n
 root_all w h c m n e r q v = all_of_run w n (root_went w h c m n e r q v)
+
+pub root_fine : (w : Model) (h : Here) (c : ClassId) (m n : Walked) → h ≡ start → c.index ≡ w.root → m ≡ nothing → Went step (InBlock w h c) m n → NoneFails (InModel w)
+root_fine w h c m n e r q v = no_fault (InModel w) n (root_went w h c m n e r q v)

@@ -18,6 +18,6 @@ mod walking;
 
 pub use order::by_instance;
 pub use role::{Part, Role, items_of, role_of};
-pub use texts::path_text;
+pub use texts::{path_text, step_text};
 pub use walked::{Content, Element, Instance, KindInstance, Point, WalkFault, Walked};
 pub use walking::walk;

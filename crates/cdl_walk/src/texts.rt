@@ -40,6 +40,15 @@ fn push_step(text: &mut Text, step: &Step) -> Result<(), OutOfMemory>
     text.push(b"]")
 }
 
+/// The text of a step: its name, and its indices in brackets where it has some, as `a[2]`.
+pub fn step_text(alloc: Global, step: &Step) -> Result<Text, OutOfMemory>
+    ensures { IfOk result (λ text. text ≡ spec.step_text step.now) }
+{
+    let mut text = Text::from_bytes(alloc, b"")?;
+    push_step(&mut text, step)?;
+    Ok(text)
+}
+
 // Adds further steps, each behind a point.
 fn push_more_steps(text: &mut Text, steps: &[Step]) -> Result<(), OutOfMemory>
     ensures { OnOk result (text.new ≡ text.old ++ spec.more_steps steps.now) }

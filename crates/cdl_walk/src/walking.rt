@@ -10,7 +10,7 @@ ghost use Rattle.cdl_walk.specs.Events.{step};
 ghost use Rattle.cdl_scopes.specs.Lookup.{item_name};
 ghost use Rattle.cdl_walk.specs.Faults.{Tells, at, named, seen};
 ghost use Rattle.cdl_walk.specs.Instances.{AreAll};
-ghost use Rattle.cdl_walk.specs.Judges.{Judges};
+ghost use Rattle.cdl_walk.specs.Judges.{Judges, NoneFails};
 ghost use Rattle.cdl_walk.specs.inner.Numbers.{AreNumbers, IsDeeper};
 ghost use Rattle.cdl_walk.specs.Places.{here, entered};
 ghost use Rattle.cdl_walk.specs.Stations as spec;
@@ -292,6 +292,7 @@ pub fn instance<'a>(
 pub fn walk(alloc: Global, e: &mut Elaborator<'_>) -> Result<Walked, WalkFault>
     ensures kept { e.new ≡ e.old }
     ensures judges { Judges (spec.InModel e.old) result }
+    ensures fine { OnOk result (NoneFails (spec.InModel e.old)) }
     ensures all { IfOk result (AreAll e.old) }
 {
     let root = e.root();

@@ -1,10 +1,13 @@
 -- The instances and elements of a net, by the numbers of the walk.
-use Rattle.std.specs.Prelude.{ℕ, suc, ◌<◌, ◌≤◌, ◌==◌, nat_lt, List, [], ◌∷◌, length, slice_index_or}
+use Rattle.std.specs.Prelude.{ℕ, suc, ◌<◌, ◌≤◌, ◌≡◌, ◌==◌, nat_lt, List, [], ◌∷◌, map, length, slice_index_or}
+use Rattle.cdl_connect.specs.declared.net.Net.{Net}
 use Rattle.cdl_connect.specs.declared.net.NetElement.{NetElement}
 use Rattle.cdl_connect.specs.declared.net.NetInstance.{NetInstance}
+use Rattle.cdl_connect.specs.declared.net.RawWire.{RawWire}
 use Rattle.cdl_network.specs.Lists.{count}
 use Rattle.cdl_walk.specs.declared.walked.Element.{Element}
 use Rattle.cdl_walk.specs.declared.walked.Instance.{Instance}
+use Rattle.cdl_walk.specs.declared.walked.Walked.{Walked}
 use Rattle.cdl_walk.specs.Texts.{path_text, step_text}
 use Rattle.cdl_model.specs.NetOf.{body_of}
 
@@ -34,3 +37,9 @@ pub record IsBoundary (es : List Element) (i k : ℕ) : Type 0 where
   pub within : k ≤ length es
   pub before : (x : ℕ) (d : Element) → x < k → (slice_index_or es x d).instance < i
   pub behind : (x : ℕ) (d : Element) → k ≤ x → x < length es → i ≤ (slice_index_or es x d).instance
+
+-- the net of these lists, where a number is a place
+pub record IsNumbered (m : Walked) (ws : List RawWire) (n : Net) : Type 0 where
+  pub instances : n.instances ≡ at_numbers m.elements 0 m.instances
+  pub elements : n.elements ≡ map numbered m.elements
+  pub wires : n.wires ≡ ws

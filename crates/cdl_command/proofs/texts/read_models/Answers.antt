@@ -1,7 +1,7 @@
 use Rattle.std.proofs.Common.{◌∙◌, arith, map, string_bytes}
 use Rattle.std.proofs.lemmas.Result.{err_from_is_err_and}
 use Rattle.cdl_command.proofs.ModelFacts.{named_at, next_due, read_more, stopped_at, no_memory_at, due_more}
-use Rattle.cdl_command.proofs.RunFacts.{fault_behind}
+use Rattle.cdl_command.proofs.TextFacts.{fault_behind}
 use Rattle.cdl_command.proofs.texts.read_models.Goals as goal
 
 pub read_model-requires-clause-next : goal.read_model-requires-clause-next
@@ -49,6 +49,7 @@ loop-i-preserved g c =
       due = due_more c.loop-i.i (g.F.Files.due c.args.files.now) (g.F.Files.due c.loop-i.files) _ c.loop-i.invariant.due c.in_ok-text.ensures.due;
       contents = c.in_ok-text.ensures.contents ∙ c.loop-i.invariant.contents;
       kept = c.in_ok-text.ensures.kept ∙ c.loop-i.invariant.kept;
+      end = λ some. c.in_ok-text.ensures.end;
     }
 
 pub returns-in_err-text-clause-answered : goal.returns-in_err-text-clause-answered

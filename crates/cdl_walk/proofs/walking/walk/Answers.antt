@@ -1,6 +1,6 @@
 use Rattle.cdl_walk.specs.Places.{here}
 use Rattle.cdl_walk.proofs.Counts.{root_found, root_fault}
-use Rattle.cdl_walk.proofs.Owners.{root_all}
+use Rattle.cdl_walk.proofs.Owners.{root_all, root_fine}
 use Rattle.cdl_walk.proofs.walking.walk.Goals as goal
 
 pub returns-in-Ok-clause-judges : goal.returns-in-Ok-clause-judges
@@ -13,4 +13,8 @@ returns-clause-judges c = root_fault c.args.e.now (here c.at_root-place.result) 
 
 pub returns-in-Ok-clause-all : goal.returns-in-Ok-clause-all
 returns-in-Ok-clause-all c = root_all c.args.e.now (here c.at_root-place.result) c.root-root.result c.nothing-walked.result c.block.new.walked
+    c.at_root-place.ensures.here c.root-root.ensures c.nothing-walked.ensures c.in-Ok.ensures.runs
+
+pub returns-in-Ok-clause-fine : goal.returns-in-Ok-clause-fine
+returns-in-Ok-clause-fine c = root_fine c.args.e.now (here c.at_root-place.result) c.root-root.result c.nothing-walked.result c.block.new.walked
     c.at_root-place.ensures.here c.root-root.ensures c.nothing-walked.ensures c.in-Ok.ensures.runs

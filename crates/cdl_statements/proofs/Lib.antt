@@ -1,0 +1,11 @@
+pub mod Behind
+pub mod Steps
+pub mod Counts
+pub mod Keys
+pub mod Ranges
+pub mod Reaching
+pub mod Standing
+pub mod Wires
+pub mod Numbers
+pub mod Rows
+pub mod Told

@@ -1,0 +1,12 @@
+pub mod Integers
+pub mod Ends
+pub mod Picks
+pub mod Sides
+pub mod Verdicts
+pub mod Places
+pub mod Directory
+pub mod Events
+pub mod Stations
+pub mod Judges
+pub mod Complete
+pub mod inner
