@@ -1,0 +1,51 @@
+within Sequences;
+block TrimAndRespond "A set point that is trimmed in steps, and answers requests"
+  parameter Real ini "Set point while the fan is off, and at first";
+  parameter Real low "Least set point";
+  parameter Real hig "Greatest set point";
+  parameter Modelica.Units.SI.Time tWai=600 "The fan runs this long before the first step";
+  parameter Modelica.Units.SI.Time per=120 "Time of one step";
+  parameter Integer ign=2 "This many requests are passed over";
+  parameter Real tri "Each step trims by this";
+  parameter Real res "Each request answers by this, against the trim";
+  parameter Real most "An answer is this at most";
+  Buildings.Controls.OBC.CDL.Interfaces.BooleanInput uFan "The fan runs";
+  Buildings.Controls.OBC.CDL.Interfaces.IntegerInput nReq "Requests";
+  Buildings.Controls.OBC.CDL.Interfaces.RealOutput y "Set point";
+protected
+  Buildings.Controls.OBC.CDL.Logical.TrueDelay run(delayTime=tWai, delayOnInit=true);
+  Buildings.Controls.OBC.CDL.Integers.AddParameter net(p=-ign) "Requests that count";
+  Buildings.Controls.OBC.CDL.Integers.Sources.Constant non(k=0);
+  Buildings.Controls.OBC.CDL.Integers.Max pos "Not below 0";
+  Buildings.Controls.OBC.CDL.Conversions.IntegerToReal num;
+  Buildings.Controls.OBC.CDL.Reals.MultiplyByParameter ans(k=res);
+  Buildings.Controls.OBC.CDL.Reals.Sources.Constant top(k=most);
+  Buildings.Controls.OBC.CDL.Reals.Min cap "The answer, bounded";
+  Buildings.Controls.OBC.CDL.Discrete.UnitDelay last(samplePeriod=per, y_start=ini)
+    "The set point of the step before";
+  Buildings.Controls.OBC.CDL.Reals.AddParameter trim(p=tri);
+  Buildings.Controls.OBC.CDL.Reals.Add next;
+  Buildings.Controls.OBC.CDL.Reals.Limiter lim(uMax=hig, uMin=low);
+  Buildings.Controls.OBC.CDL.Reals.Sources.Constant sta(k=ini);
+  Buildings.Controls.OBC.CDL.Reals.Switch cho "Steps while the fan runs";
+  Buildings.Controls.OBC.CDL.Discrete.Sampler sam(samplePeriod=per) "Moves with the steps only";
+equation
+  connect(uFan, run.u);
+  connect(nReq, net.u);
+  connect(net.y, pos.u1);
+  connect(non.y, pos.u2);
+  connect(pos.y, num.u);
+  connect(num.y, ans.u);
+  connect(ans.y, cap.u1);
+  connect(top.y, cap.u2);
+  connect(last.y, trim.u);
+  connect(trim.y, next.u1);
+  connect(cap.y, next.u2);
+  connect(next.y, lim.u);
+  connect(lim.y, cho.u1);
+  connect(run.y, cho.u2);
+  connect(sta.y, cho.u3);
+  connect(cho.y, last.u);
+  connect(cho.y, sam.u);
+  connect(sam.y, y);
+end TrimAndRespond;

@@ -1,0 +1,82 @@
+block HighLimit "Tells whether outdoor air is cool and dry enough to cool with"
+  parameter Boolean use_enthalpy=true "True where the enthalpy is measured";
+  parameter Modelica.Units.SI.ThermodynamicTemperature TCut=294.15 "Too warm from here on";
+  parameter Modelica.Units.SI.TemperatureDifference dT=1 "Too warm is told with this lag";
+  parameter Modelica.Units.SI.SpecificEnthalpy hCut=56000 "Too humid from here on";
+  parameter Modelica.Units.SI.SpecificEnthalpy dh=2000 "Too humid is told with this lag";
+  Buildings.Controls.OBC.CDL.Interfaces.RealInput TOut(final unit="K") "Outdoor temperature";
+  Buildings.Controls.OBC.CDL.Interfaces.RealInput TRet(final unit="K") "Return temperature";
+  Buildings.Controls.OBC.CDL.Interfaces.RealInput hOut(final unit="J/kg") if use_enthalpy;
+  Buildings.Controls.OBC.CDL.Interfaces.BooleanOutput y "Cool and dry enough";
+protected
+  Buildings.Controls.OBC.CDL.Reals.LessThreshold coo(t=TCut - dT, h=dT);
+  Buildings.Controls.OBC.CDL.Reals.Less les(h=0.5) "Cooler than what returns";
+  Buildings.Controls.OBC.CDL.Reals.LessThreshold dry(t=hCut - dh, h=dh) if use_enthalpy;
+  Buildings.Controls.OBC.CDL.Logical.Sources.Constant tru(k=true) if not use_enthalpy;
+  Buildings.Controls.OBC.CDL.Logical.MultiAnd all(nin=3);
+equation
+  connect(TOut, coo.u);
+  connect(TOut, les.u1);
+  connect(TRet, les.u2);
+  connect(hOut, dry.u);
+  connect(coo.y, all.u[1]);
+  connect(les.y, all.u[2]);
+  connect(dry.y, all.u[3]);
+  connect(tru.y, all.u[3]);
+  connect(all.y, y);
+end HighLimit;
+
+block Economizer "Opens the outdoor air damper while outdoor air can cool"
+  parameter Boolean use_enthalpy=true "True where the enthalpy is measured";
+  parameter Real yMin=0.15 "Least position of the damper, for fresh air";
+  parameter Modelica.Units.SI.Time tHol=600 "Each decision is kept this long";
+  Buildings.Controls.OBC.CDL.Interfaces.BooleanInput uFan "The supply fan runs";
+  Buildings.Controls.OBC.CDL.Interfaces.IntegerInput uFre "Stage of the freeze protection";
+  Buildings.Controls.OBC.CDL.Interfaces.RealInput TOut(unit="K") "Outdoor temperature";
+  Buildings.Controls.OBC.CDL.Interfaces.RealInput TRet(unit="K") "Return temperature";
+  Buildings.Controls.OBC.CDL.Interfaces.RealInput hOut(unit="J/kg") if use_enthalpy;
+  Buildings.Controls.OBC.CDL.Interfaces.RealInput uCoo(unit="1") "Signal of the cooling loop";
+  Buildings.Controls.OBC.CDL.Interfaces.BooleanOutput yEco "The economizer is enabled";
+  Buildings.Controls.OBC.CDL.Interfaces.RealOutput yOut(unit="1") "Outdoor air damper";
+  Buildings.Controls.OBC.CDL.Interfaces.RealOutput yRet(unit="1") "Return air damper";
+protected
+  HighLimit lim(final use_enthalpy=use_enthalpy, TCut=295.15, coo(h=1.5));
+  Buildings.Controls.OBC.CDL.Integers.LessThreshold noFre(t=1) "No freeze protection";
+  Buildings.Controls.OBC.CDL.Logical.And saf "Cool enough, and no danger of frost";
+  Buildings.Controls.OBC.CDL.Logical.TrueFalseHold hol(trueHoldDuration=tHol);
+  Buildings.Controls.OBC.CDL.Logical.And ena "Only while the fan runs";
+  Buildings.Controls.OBC.CDL.Reals.Sources.Constant clo(k=yMin);
+  Buildings.Controls.OBC.CDL.Reals.Sources.Constant one(k=1);
+  Buildings.Controls.OBC.CDL.Reals.Sources.Constant nul(k=0);
+  Buildings.Controls.OBC.CDL.Reals.Switch top "How far the damper may open";
+  Buildings.Controls.OBC.CDL.Reals.Line dam "Damper along the cooling loop";
+  Buildings.Controls.OBC.CDL.Conversions.BooleanToReal fan "The damper is shut without a fan";
+  Buildings.Controls.OBC.CDL.Reals.Multiply out;
+  Buildings.Controls.OBC.CDL.Reals.Subtract ret;
+equation
+  connect(TOut, lim.TOut);
+  connect(TRet, lim.TRet);
+  connect(hOut, lim.hOut);
+  connect(uFre, noFre.u);
+  connect(lim.y, saf.u1);
+  connect(noFre.y, saf.u2);
+  connect(saf.y, hol.u);
+  connect(hol.y, ena.u1);
+  connect(uFan, ena.u2);
+  connect(ena.y, yEco);
+  connect(one.y, top.u1);
+  connect(ena.y, top.u2);
+  connect(clo.y, top.u3);
+  connect(nul.y, dam.x1);
+  connect(clo.y, dam.f1);
+  connect(one.y, dam.x2);
+  connect(top.y, dam.f2);
+  connect(uCoo, dam.u);
+  connect(uFan, fan.u);
+  connect(dam.y, out.u1);
+  connect(fan.y, out.u2);
+  connect(out.y, yOut);
+  connect(one.y, ret.u1);
+  connect(out.y, ret.u2);
+  connect(ret.y, yRet);
+end Economizer;

@@ -1,0 +1,48 @@
+within Buildings.Controls.OBC.Site;
+block Requests "Counts the requests of all zones, each by its importance"
+  parameter Integer nZon=4 "Number of zones";
+  parameter Integer impHea[nZon]={1,1,1,2} "Importance of each zone for heating";
+  parameter Integer impCoo[nZon]={1,1,3,0} "Importance for cooling; 0 is not counted";
+  parameter Integer ign=2 "This many requests are passed over";
+  parameter Modelica.Units.SI.Time tDel=300 "A distance counts after this time";
+  CDL.Interfaces.RealInput TZon[nZon](each unit="K") "Zone temperatures";
+  CDL.Interfaces.RealInput THeaSet(unit="K") "Set point of all zones for heating";
+  CDL.Interfaces.RealInput TCooSet(unit="K") "Set point of all zones for cooling";
+  CDL.Interfaces.RealInput uLoo[nZon](each unit="1") "Loops: cooling above 0, heating below";
+  CDL.Interfaces.IntegerOutput nHea "Requests for heating";
+  CDL.Interfaces.IntegerOutput nCoo "Requests for cooling";
+  CDL.Interfaces.BooleanOutput yHea "The heating plant is wanted";
+  CDL.Interfaces.BooleanOutput yCoo "The cooling plant is wanted";
+protected
+  CDL.Routing.RealScalarReplicator THea(nout=nZon);
+  CDL.Routing.RealScalarReplicator TCoo(nout=nZon);
+  CDL.Reals.MultiplyByParameter neg[nZon](each k=-1) "Heating loops";
+  ZoneRequests hea[nZon](each sig=-1, each farDel(delayTime=tDel), each offDel(delayTime=tDel));
+  ZoneRequests coo[nZon](each tDel=tDel, each ful(uLow=0.9));
+  CDL.Integers.MultiSum sumHea(nin=nZon, k=impHea);
+  CDL.Integers.MultiSum sumCoo(nin=nZon, k=impCoo);
+  CDL.Integers.GreaterThreshold anyHea(t=ign);
+  CDL.Integers.GreaterThreshold anyCoo(t=ign);
+  CDL.Logical.TrueFalseHold holHea(trueHoldDuration=900);
+  CDL.Logical.TrueFalseHold holCoo(trueHoldDuration=900);
+equation
+  connect(THeaSet, THea.u);
+  connect(TCooSet, TCoo.u);
+  connect(TZon, hea.TZon);
+  connect(TZon, coo.TZon);
+  connect(THea.y, hea.TSet);
+  connect(TCoo.y, coo.TSet);
+  connect(uLoo, neg.u);
+  connect(neg.y, hea.uLoo);
+  connect(uLoo, coo.uLoo);
+  connect(hea.y, sumHea.u);
+  connect(coo.y, sumCoo.u);
+  connect(sumHea.y, nHea);
+  connect(sumCoo.y, nCoo);
+  connect(sumHea.y, anyHea.u);
+  connect(sumCoo.y, anyCoo.u);
+  connect(anyHea.y, holHea.u);
+  connect(anyCoo.y, holCoo.u);
+  connect(holHea.y, yHea);
+  connect(holCoo.y, yCoo);
+end Requests;

@@ -1,0 +1,41 @@
+within Buildings.Controls.OBC.Site;
+block ZoneRequests "How strongly one zone asks for heating or cooling: 0 to 3 requests"
+  parameter Real sig=1 "1 for cooling, -1 for heating";
+  parameter Modelica.Units.SI.TemperatureDifference dTFar=3 "Three requests from here on";
+  parameter Modelica.Units.SI.TemperatureDifference dTOff=2 "Two requests from here on";
+  parameter Modelica.Units.SI.Time tDel=120 "A distance counts after this time";
+  CDL.Interfaces.RealInput TZon(unit="K") "Zone temperature";
+  CDL.Interfaces.RealInput TSet(unit="K") "Set point";
+  CDL.Interfaces.RealInput uLoo(unit="1") "Signal of the zone's control loop";
+  CDL.Interfaces.IntegerOutput y "Requests";
+protected
+  CDL.Reals.Subtract err "Zone less set point";
+  CDL.Reals.MultiplyByParameter dis(k=sig) "Distance on the wrong side";
+  CDL.Reals.GreaterThreshold far(t=dTFar, h=0.2);
+  CDL.Reals.GreaterThreshold off(t=dTOff, h=0.2);
+  CDL.Logical.TrueDelay farDel(delayTime=tDel);
+  CDL.Logical.TrueDelay offDel(delayTime=tDel);
+  CDL.Reals.Hysteresis ful(uLow=0.85, uHigh=0.95) "The loop is at its end";
+  CDL.Conversions.BooleanToInteger thr(integerTrue=3);
+  CDL.Conversions.BooleanToInteger two(integerTrue=2);
+  CDL.Conversions.BooleanToInteger one;
+  CDL.Integers.Max max1;
+  CDL.Integers.Max max2;
+equation
+  connect(TZon, err.u1);
+  connect(TSet, err.u2);
+  connect(err.y, dis.u);
+  connect(dis.y, far.u);
+  connect(dis.y, off.u);
+  connect(far.y, farDel.u);
+  connect(off.y, offDel.u);
+  connect(uLoo, ful.u);
+  connect(farDel.y, thr.u);
+  connect(offDel.y, two.u);
+  connect(ful.y, one.u);
+  connect(thr.y, max1.u1);
+  connect(two.y, max1.u2);
+  connect(max1.y, max2.u1);
+  connect(one.y, max2.u2);
+  connect(max2.y, y);
+end ZoneRequests;
