@@ -3,3 +3,7 @@ pub mod Evals
 pub mod Worths
 pub mod Links
 pub mod Laws
+pub mod Given
+pub mod Texts
+pub mod Formed
+pub mod TextWorths

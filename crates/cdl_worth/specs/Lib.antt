@@ -3,3 +3,4 @@ pub mod Sizes
 pub mod Values
 pub mod Links
 pub mod Units
+pub mod Texts

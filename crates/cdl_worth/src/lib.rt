@@ -2,18 +2,21 @@
 //! contract is all.
 #![tactic(auto)]
 
-ghost use Rattle.std.specs.Prelude.{◌≡◌, ◌≤◌, ℕ, Bool, List, Ok, Err};
+ghost use Rattle.std.specs.Prelude.{◌≡◌, ◌≤◌, ℕ, Bool, true, List, Ok, Err, IfOk};
 ghost use Rattle.cdl_source.specs.declared.rules.TheConstants.{PARAMETERS_TOO_DEEP};
 ghost use Rattle.cdl_source.specs.declared.limits.TheConstants.{MOST_LINKS};
 ghost use Rattle.cdl_values.specs.declared.value.Array.{Array};
 ghost use Rattle.cdl_tree.specs.declared.name.Name.{Name};
 ghost use Rattle.cdl_tree.specs.declared.expr.Expr.{Expr};
 ghost use Rattle.cdl_tree.specs.declared.class.Item.{Item};
+ghost use Rattle.cdl_tree.specs.Formed.{is_formed};
 ghost use Rattle.cdl_array.specs.Outcomes.{Outcome};
 ghost use Rattle.cdl_scopes.specs.Classes.{Declared};
 ghost use Rattle.cdl_paths.specs.declared.path.Local.{Local};
 ghost use Rattle.cdl_worth.specs.Expressions.{eval};
 ghost use Rattle.cdl_worth.specs.Links.{Lasts, Settles, Within};
+ghost use Rattle.cdl_worth.specs.Texts.{HasTexts, HasUnits, are_formed};
+ghost use Rattle.cdl_worth.specs.Units.{unit};
 ghost use Rattle.cdl_worth.specs.Values.{Steps, dims, evaluate, present, value};
 
 /// Laws: more links change nothing but an answer that is too deep.
@@ -40,4 +43,12 @@ pub fn each_value_needs_its_links()
 pub fn expressions_follow_their_names()
     ensures names { (f g : Name → Outcome Array) (e : Expr) → ((n : Name) → Within (f n) (g n)) → Within (eval f e) (eval g e) }
     ensures no_names { (f : Name → Outcome Array) (e : Expr) (a : Array) → eval (λ n. Err PARAMETERS_TOO_DEEP) e ≡ Ok a → eval f e ≡ Ok a }
+{}
+
+/// Laws: where the declared classes are formed, as those of texts are, each String in what a parameter, a formed expression or a unit is
+/// worth is UTF-8, and a unit has at most 64 bytes.
+pub fn texts_are_utf8()
+    ensures value { (ds : List Declared) (d r : ℕ) (p : Steps) (n : List ℕ) → are_formed ds ≡ true → IfOk (value ds d r p n) HasTexts }
+    ensures expression { (ds : List Declared) (d r : ℕ) (p : Steps) (locals : List Local) (e : Expr) → are_formed ds ≡ true → is_formed e ≡ true → IfOk (evaluate ds d r p locals e) HasTexts }
+    ensures unit { (ds : List Declared) (d r : ℕ) (p : Steps) (n : List ℕ) → are_formed ds ≡ true → IfOk (unit ds d r p n) HasUnits }
 {}
