@@ -82,7 +82,7 @@ file_classes : (f : FileTree) → formed_file f ≡ true → list_all formed_cla
 unfolding formed_file
 file_classes f h = (both _ _ (both _ _ h).1).1
 
-files_formed : (file : ℕ) (files : List FileTree) → list_all formed_file files ≡ true → list_all tree_formed (declared_from file files) ≡ true
+pub files_formed : (file : ℕ) (files : List FileTree) → list_all formed_file files ≡ true → list_all tree_formed (declared_from file files) ≡ true
 files_formed file [] h = refl
 files_formed file (f ∷ files) h =
     let parts = both (formed_file f) (list_all formed_file files) h in
