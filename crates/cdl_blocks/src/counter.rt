@@ -1,5 +1,6 @@
 // A counter of rising inputs.
 ghost use Rattle.std.specs.Prelude.{◌≡◌, ◌≤◌, [], ◌∷◌, cond, length, pos, refl, true, unsigned_abs};
+ghost use Rattle.std.proofs.Common.{arith};
 ghost use Rattle.cdl_source.specs.declared.limits.TheConstants.{LARGEST_INTEGER};
 ghost use Rattle.cdl_values.specs.declared.value.ValueType.TheVariants.{Boolean, Integer};
 ghost use Rattle.cdl_values.specs.History.{AreValues, before, bit, integers, is_on, typed, word};
@@ -139,6 +140,8 @@ impl Elementary for OnCounter {
         };
         counted.write(state);
     }
+
+    ghost idle = { λ _ (w : 3 ≡ 0). absurd (omega (arith, w)) };
 
     ghost direct_only = { by_all (λ b. on_counter b.start) (typed (Boolean ∷ Boolean ∷ [])) (λ _. refl) };
 }

@@ -1,5 +1,6 @@
 // Blocks that look at a Boolean and at the one before.
 ghost use Rattle.std.specs.Prelude.{◌≡◌, [], ◌∷◌, refl};
+ghost use Rattle.std.proofs.Common.{arith};
 ghost use Rattle.cdl_values.specs.declared.value.ValueType.TheVariants.{Boolean};
 ghost use Rattle.cdl_values.specs.History.{AreValues, before, bit, booleans, later};
 ghost use Rattle.cdl_values.proofs.Laws.{by_all};
@@ -87,6 +88,8 @@ impl Elementary for Edge {
         seen.write(state);
     }
 
+    ghost idle = { λ _ (w : 1 ≡ 0). absurd (omega (arith, w)) };
+
     ghost direct_only = { by_all (λ b. edge (edge_function b.op) b.start) (booleans 1) (λ _. refl) };
 }
 
@@ -143,6 +146,8 @@ impl Elementary for Pre {
         };
         seen.write(state);
     }
+
+    ghost idle = { λ _ (w : 1 ≡ 0). absurd (omega (arith, w)) };
 
     ghost direct_only = { λ _ _ _ _ _ _. refl };
 }

@@ -1,5 +1,6 @@
 // Comparisons of Reals that hold on to what they gave.
 ghost use Rattle.std.specs.Prelude.{◌≡◌, ◌+ℤ◌, ◌-ℤ◌, [], ◌∷◌, cond, length, pos};
+ghost use Rattle.std.proofs.Common.{arith};
 ghost use Rattle.std.specs.Int.RustNames.{int_le, int_lt};
 ghost use Rattle.cdl_decimal.specs.Near.{InRange};
 ghost use Rattle.cdl_values.specs.History.{AreValues, bit, booleans, is_on, word};
@@ -173,6 +174,8 @@ impl Elementary for Hysteresis {
         };
         given.write(state);
     }
+
+    ghost idle = { λ _ (w : 1 ≡ 0). absurd (omega (arith, w)) };
 
     ghost direct_only = { λ b h now x y s. by_all (λ c. remembering (rule_function c.rule) c.start) (rule_inputs b.rule) (rule_direct b.rule) b h now x y s };
 }

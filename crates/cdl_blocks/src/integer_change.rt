@@ -1,5 +1,6 @@
 // A block that looks at an Integer and at the one before.
 ghost use Rattle.std.specs.Prelude.{◌≡◌, [], ◌∷◌, length, refl};
+ghost use Rattle.std.proofs.Common.{arith};
 ghost use Rattle.cdl_values.specs.declared.value.ValueType.TheVariants.{Boolean};
 ghost use Rattle.cdl_values.specs.History.{AreValues, before, integers, typed, word};
 ghost use Rattle.cdl_values.proofs.Laws.{by_all};
@@ -99,6 +100,8 @@ impl Elementary for IntegerChange {
         let seen = Seen { last: read(ins, 0) };
         seen.write(state);
     }
+
+    ghost idle = { λ _ (w : 1 ≡ 0). absurd (omega (arith, w)) };
 
     ghost direct_only = { by_all (λ b. integer_change b.start) (integers 1) (λ _. refl) };
 }

@@ -1,5 +1,6 @@
 // Blocks that remember that their input started.
 ghost use Rattle.std.specs.Prelude.{◌≡◌, [], ◌∷◌, length, pos, refl};
+ghost use Rattle.std.proofs.Common.{arith};
 ghost use Rattle.cdl_values.specs.declared.value.ValueType.TheVariants.{Boolean};
 ghost use Rattle.cdl_values.specs.History.{AreValues, before, bit, booleans, is_on, typed, word};
 ghost use Rattle.cdl_values.proofs.Laws.{by_all};
@@ -129,6 +130,8 @@ impl Elementary for Memory {
         let next = Remembered::read(state).next(self.op, ins);
         next.write(state);
     }
+
+    ghost idle = { λ _ (w : 2 ≡ 0). absurd (omega (arith, w)) };
 
     ghost direct_only = { by_all (λ b. memory_meaning b.op) (typed (Boolean ∷ Boolean ∷ [])) (λ _. refl) };
 }

@@ -1,5 +1,6 @@
 // The mean of what a trigger picked last.
 ghost use Rattle.std.specs.Prelude.{◌≡◌, ◌&&◌, ◌||◌, ◌+◌, ◌-◌, ◌*◌, ◌+ℤ◌, ◌≤ℤ◌, ◌<◌, ◌≤◌, ◌↔◌, IsTrue, ℕ, Some, [], ◌∷◌, cond, drop, length, min, not, pos, refl, take, unsigned_abs};
+ghost use Rattle.std.proofs.Common.{arith};
 ghost use Rattle.cdl_source.specs.declared.limits.TheConstants.{LARGEST_REAL};
 ghost use Rattle.cdl_decimal.specs.Counts.{real_mean, total};
 ghost use Rattle.cdl_decimal.specs.Near.{InRange};
@@ -277,6 +278,8 @@ impl Elementary for TriggeredMovingMean {
         let count = window.next_count(self.size, picked);
         keep(state, ins, picked, count);
     }
+
+    ghost idle = { λ b (w : b.size + 3 ≡ 0). absurd (omega (arith, w)) };
 
     ghost direct_only = { by_all (λ b. triggered_moving_mean b.size) (typed (RealType ∷ Boolean ∷ [])) (λ _. refl) };
 }

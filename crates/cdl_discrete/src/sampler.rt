@@ -1,5 +1,6 @@
 // Samplers.
 ghost use Rattle.std.specs.Prelude.{◌≡◌, ◌<ℤ◌, [], ◌∷◌, length, pos, refl};
+ghost use Rattle.std.proofs.Common.{arith};
 ghost use Rattle.cdl_decimal.specs.Near.{InRange};
 ghost use Rattle.cdl_values.specs.History.{IsTime, reals, word};
 ghost use Rattle.cdl_values.proofs.Laws.{by_all};
@@ -116,6 +117,8 @@ impl Elementary for Sampler {
         let sampled = Sampled::read(state).next(self, now, ins);
         sampled.write(state);
     }
+
+    ghost idle = { λ _ (w : 2 ≡ 0). absurd (omega (arith, w)) };
 
     ghost direct_only = { by_all (λ b. sampler b.period) (reals 1) (λ _. refl) };
 }

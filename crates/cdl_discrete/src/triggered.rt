@@ -1,5 +1,6 @@
 // What a trigger picks.
 ghost use Rattle.std.specs.Prelude.{◌≡◌, [], ◌∷◌, length, pos, refl, true};
+ghost use Rattle.std.proofs.Common.{arith};
 ghost use Rattle.cdl_values.specs.declared.value.ValueType.TheVariants.{Boolean, Real as RealType};
 ghost use Rattle.cdl_decimal.specs.Near.{InRange};
 ghost use Rattle.cdl_values.specs.History.{AreValues, before, bit, is_on, reals, typed, word};
@@ -114,6 +115,8 @@ impl Elementary for TriggeredSampler {
         let caught = Caught::read(state).next(ins);
         caught.write(state);
     }
+
+    ghost idle = { λ _ (w : 2 ≡ 0). absurd (omega (arith, w)) };
 
     ghost direct_only = { by_all (λ b. triggered_sampler b.start) (typed (RealType ∷ Boolean ∷ [])) (λ _. refl) };
 }
@@ -238,6 +241,8 @@ impl Elementary for TriggeredMax {
         let greatest = Greatest::read(state).next(ins);
         greatest.write(state);
     }
+
+    ghost idle = { λ _ (w : 3 ≡ 0). absurd (omega (arith, w)) };
 
     ghost direct_only = { by_all (λ _. triggered_max) (typed (RealType ∷ Boolean ∷ [])) (λ _. refl) };
 }

@@ -1,5 +1,6 @@
 // A delay by one sample.
 ghost use Rattle.std.specs.Prelude.{◌≡◌, ◌↔◌, IsTrue, ◌<ℤ◌, [], ◌∷◌, length, pos};
+ghost use Rattle.std.proofs.Common.{arith};
 ghost use Rattle.cdl_values.specs.declared.value.ValueType.TheVariants.{Real as RealType};
 ghost use Rattle.cdl_decimal.specs.Near.{InRange};
 ghost use Rattle.cdl_values.specs.History.{IsTime, IsValue, later, reals, word};
@@ -151,6 +152,8 @@ impl Elementary for UnitDelay {
         let samples = Samples::read(state).next(self, now, ins);
         samples.write(state);
     }
+
+    ghost idle = { λ _ (w : 3 ≡ 0). absurd (omega (arith, w)) };
 
     ghost direct_only = { λ b h now x y _. second_sample b.start (samples b.period h now) (word x 0) (word y 0) (sampled b.period h) };
 }

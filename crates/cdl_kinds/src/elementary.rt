@@ -77,6 +77,9 @@ pub trait Elementary {
         ensures sound { is_sound self.now state.new now }
         ensures stands { (h : History) → stands self.now state.old h → IsHistory (inputs self.now) (meaning self.now) (tick now ins.now ∷ h) → stands self.now state.new (tick now ins.now ∷ h) };
 
+    /// Without state words it stands for all ticks alike, and is sound at all times: it has nothing to absorb.
+    ghost idle: { (b : Self) → width b ≡ 0 → ((state : List ℤ) (h g : History) → stands b state h → stands b state g) × ((state : List ℤ) (last now : ℤ) → is_sound b state last → is_sound b state now) };
+
     /// The inputs that are not direct have no part in what it gives.
     ghost direct_only: { (b : Self) (h : History) (now : ℤ) (x y : List ℤ) → SameDirect (inputs b) x y → meaning b h now x ≡ meaning b h now y };
 }

@@ -121,5 +121,7 @@ impl Elementary for MemorylessBlock {
 
     fn absorb(&self, _state: &mut [i64], _now: i64, _ins: &[i64]) {}
 
+    ghost idle = { λ _ _. (λ _ _ _ s. s, λ _ _ _ s. s) };
+
     ghost direct_only = { λ b h now x y s. by_all (λ c _ _ z. ⟦<MemorylessBlock as Memoryless>⟧.gives c z) (all_direct (⟦<MemorylessBlock as Memoryless>⟧.inputs b)) (λ _. refl) b h now x y s };
 }

@@ -1,5 +1,6 @@
 // Blocks of Reals.
 ghost use Rattle.std.specs.Prelude.{◌≡◌, [], ◌∷◌};
+ghost use Rattle.cdl_decimal.specs.Counts.{real_div, real_mean, real_modulo, real_mul};
 ghost use Rattle.cdl_values.specs.declared.value.ValueType.TheVariants.{Real};
 ghost use Rattle.cdl_values.specs.History.{reals, typed};
 ghost use Rattle.cdl_values.specs.Extremes.{greater_of, lesser_of};
@@ -40,6 +41,36 @@ fn lesser_real(a: Real, b: Real) -> Real
     if a.count() <= b.count() { a } else { b }
 }
 
+// These are long, and stand apart: what computes a sum then keeps no registers for them.
+
+#[inline(never)]
+fn product(a: Real, b: Real) -> Option<Real>
+    ensures { result ≡ real_mul a b }
+{
+    a.mul(b)
+}
+
+#[inline(never)]
+fn quotient(a: Real, b: Real) -> Option<Real>
+    ensures { result ≡ real_div a b }
+{
+    a.div(b)
+}
+
+#[inline(never)]
+fn remainder(a: Real, b: Real) -> Option<Real>
+    ensures { result ≡ real_modulo a b }
+{
+    a.modulo(b)
+}
+
+#[inline(never)]
+fn average(a: Real, b: Real) -> Option<Real>
+    ensures { result ≡ real_mean (a ∷ b ∷ []) }
+{
+    mean(&[a, b])
+}
+
 // The result, each rounded once. None: it is out of the range of Reals, or not defined.
 fn computed(op: RealOp, a: Real, b: Real) -> Option<Real>
     ensures { result ≡ real_function op a b }
@@ -47,10 +78,10 @@ fn computed(op: RealOp, a: Real, b: Real) -> Option<Real>
     match op {
         RealOp::Add => a.add(b),
         RealOp::Subtract => a.sub(b),
-        RealOp::Multiply => a.mul(b),
-        RealOp::Divide => a.div(b),
-        RealOp::Modulo => a.modulo(b),
-        RealOp::Average => mean(&[a, b]),
+        RealOp::Multiply => product(a, b),
+        RealOp::Divide => quotient(a, b),
+        RealOp::Modulo => remainder(a, b),
+        RealOp::Average => average(a, b),
         RealOp::Max => Some(greater_real(a, b)),
         RealOp::Min => Some(lesser_real(a, b)),
     }

@@ -1,5 +1,6 @@
 // How long the input has been true in all.
 ghost use Rattle.std.specs.Prelude.{◌≡◌, ◌↔◌, IsTrue, ◌≤ℤ◌, ◌<ℤ◌, ◌+ℤ◌, ◌*ℤ◌, [], ◌∷◌, cond, length, negsuc, pos, refl, true};
+ghost use Rattle.std.proofs.Common.{arith};
 ghost use Rattle.cdl_values.specs.declared.value.ValueType.TheVariants.{Boolean, Real};
 ghost use Rattle.cdl_values.specs.History.{IsTime, IsValue, before, bit, is_on, last_time, typed, word};
 ghost use Rattle.cdl_values.proofs.Laws.{by_all};
@@ -178,6 +179,8 @@ impl Elementary for TimerAccumulating {
         };
         accumulated.write(state);
     }
+
+    ghost idle = { λ _ (w : 4 ≡ 0). absurd (omega (arith, w)) };
 
     ghost direct_only = { by_all (λ b. timer_accumulating b.time) (typed (Boolean ∷ Boolean ∷ [])) (λ _. refl) };
 }

@@ -1,5 +1,6 @@
 // A delay of what becomes true.
 ghost use Rattle.std.specs.Prelude.{◌≡◌, ◌&&◌, ◌||◌, not, [], ◌∷◌, length, refl};
+ghost use Rattle.std.proofs.Common.{arith};
 ghost use Rattle.cdl_values.specs.History.{IsTime, bit, booleans, is_on, word};
 ghost use Rattle.cdl_values.proofs.Laws.{by_all};
 ghost use Rattle.cdl_kinds.specs.Meaning.Timers.{always_on, began, has_lasted, true_delay};
@@ -133,6 +134,8 @@ impl Elementary for TrueDelay {
         let run = Run::read(state).next(now, ins);
         run.write(state);
     }
+
+    ghost idle = { λ _ (w : 2 ≡ 0). absurd (omega (arith, w)) };
 
     ghost direct_only = { by_all (λ b. true_delay b.delay b.on_init) (booleans 1) (λ _. refl) };
 }

@@ -1,5 +1,6 @@
 // A hold of what was true or false.
 ghost use Rattle.std.specs.Prelude.{◌≡◌, ◌≤ℤ◌, [], ◌∷◌, Some, cond, length, pos, refl};
+ghost use Rattle.std.proofs.Common.{arith};
 ghost use Rattle.std.specs.Int.RustNames.{int_le};
 ghost use Rattle.cdl_values.specs.History.{IsTime, bit, booleans, is_on, word};
 ghost use Rattle.cdl_values.proofs.Laws.{by_all};
@@ -150,6 +151,8 @@ impl Elementary for TrueFalseHold {
         let output = Output::read(state).next(self, now, is_on(ins, 0));
         output.write(state);
     }
+
+    ghost idle = { λ _ (w : 2 ≡ 0). absurd (omega (arith, w)) };
 
     ghost direct_only = { by_all (λ b. true_false_hold b.true_hold b.false_hold) (booleans 1) (λ _. refl) };
 }

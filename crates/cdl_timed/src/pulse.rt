@@ -116,5 +116,7 @@ impl Elementary for Pulse {
 
     fn absorb(&self, _state: &mut [i64], _now: i64, _ins: &[i64]) {}
 
+    ghost idle = { λ _ _. (λ _ _ _ s. s, λ _ _ _ s. s) };
+
     ghost direct_only = { by_all (λ b. pulse b.width b.period b.shift) (typed []) (λ _. refl) };
 }

@@ -1,5 +1,6 @@
 // How long the input has been true.
 ghost use Rattle.std.specs.Prelude.{◌≡◌, [], ◌∷◌, length, pos, refl};
+ghost use Rattle.std.proofs.Common.{arith};
 ghost use Rattle.cdl_values.specs.declared.value.ValueType.TheVariants.{Boolean, Real};
 ghost use Rattle.cdl_values.specs.History.{IsTime, booleans, is_on, typed, word};
 ghost use Rattle.cdl_values.proofs.Laws.{by_all};
@@ -103,6 +104,8 @@ impl Elementary for Timer {
         let run = Run::read(state).next(now, ins);
         run.write(state);
     }
+
+    ghost idle = { λ _ (w : 2 ≡ 0). absurd (omega (arith, w)) };
 
     ghost direct_only = { by_all (λ b. timer b.time) (booleans 1) (λ _. refl) };
 }
