@@ -6,8 +6,10 @@ mod net;
 mod one;
 mod pass;
 mod start;
+mod stateful;
 mod tick;
 
 pub use net::{Action, Node};
 pub use start::{first_unsound, reset_all};
+pub use stateful::stateful_in;
 pub use tick::{BlockFault, tick_all};

@@ -5,7 +5,7 @@ ghost use Rattle.cdl_values.specs.History.{IsTime, IsValue, word};
 ghost use Rattle.cdl_pass.specs.Windows.{state_of};
 ghost use Rattle.cdl_pass.specs.Net.{blocks_of, net_of, sort_at, AllAt, Laid, Planned};
 ghost use Rattle.cdl_pass.specs.Tick.{IsTyped, Past, Starts, Solves, NoFault, FirstFault, FirstLack, RowOf, Valuation, spent_in};
-ghost use Rattle.cdl_pass.specs.Absorb.{Stood};
+ghost use Rattle.cdl_pass.specs.Absorb.{AreStateful, Stood};
 
 use crate::absorb::absorb_all;
 use crate::net::{Action, Node};
@@ -20,19 +20,21 @@ pub struct BlockFault {
     pub block: usize,
 }
 
-// One tick. Nothing is absorbed at a tick with a fault.
+// One tick. `stateful` has the numbers of the blocks with state words. Nothing is absorbed at a tick with a fault.
 pub fn tick_all<B: Elementary, L: Ledger>(
     blocks: &[B],
     nodes: &[Node],
     actions: &[Action],
     kinds: &[ValueType],
     rows: &[ValueType],
+    stateful: &[usize],
     row: &[i64],
     words: &mut [i64],
     now: i64,
     steps: &mut Steps<L>,
 ) -> Result<(), BlockFault>
     requires laid { Laid (blocks_of B.inputs B.results B.width B.meaning B.stands B.is_sound B.may_lack) (net_of blocks.now nodes.now actions.now kinds.now rows.now) (length words.old) }
+    requires stateful { AreStateful nodes.now (length nodes.now) stateful.now }
     requires planned { Planned (net_of blocks.now nodes.now actions.now kinds.now rows.now) }
     requires time { IsTime now }
     requires row { RowOf rows.now row.now }
@@ -54,7 +56,7 @@ pub fn tick_all<B: Elementary, L: Ledger>(
     match emit_all(blocks, nodes, actions, kinds, rows, row, words, now, steps) {
         Some(block) => Err(BlockFault { block }),
         None => {
-            absorb_all(blocks, nodes, actions, kinds, rows, words, now);
+            absorb_all(blocks, nodes, actions, kinds, rows, stateful, words, now);
             Ok(())
         }
     }
