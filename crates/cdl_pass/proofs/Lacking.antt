@@ -1,5 +1,5 @@
 -- The pass names the first instance that gives no value, whatever its state may stand for.
-use Rattle.std.proofs.Common.{ℕ, zero, suc, ◌+◌, ◌<◌, ◌≤◌, ◌≡◌, ◌⊎◌, refl, sym, ap, ◌∙◌, subst, Bool, true, false, cond, ℤ, List, length, arith, Option, Some, None, slice_get, inl, inr, IfSome}
+use Rattle.std.proofs.Common.{ℕ, ◌+◌, ◌<◌, ◌≤◌, ◌≡◌, ◌⊎◌, refl, sym, ap, ◌∙◌, subst, Bool, true, false, cond, ℤ, List, length, arith, Option, Some, None, slice_get, inl, inr, IfSome}
 use Rattle.cdl_source.proofs.Cases.{by_lt, by_bool}
 use Rattle.std.proofs.lemmas.Bool.{false≢true}
 use Rattle.std.proofs.lemmas.Option.{slice_get_within, none-some}

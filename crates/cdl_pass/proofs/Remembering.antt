@@ -50,6 +50,7 @@ one_more ps j ns s = record {
     within : (k a : ℕ) → (slice_get ns k ≡ Some a) ⊎ ((k ≡ length ns) × (j ≡ a)) → a < j + 1
     within k a (inl e) = let z = s.inside k a e in omega (arith, z)
     within k a (inr e) = omega (arith, e.1)
+
     rise : (k l a b : ℕ) → k < l → (slice_get ns k ≡ Some a) ⊎ ((k ≡ length ns) × (j ≡ a)) → (slice_get ns l ≡ Some b) ⊎ ((l ≡ length ns) × (j ≡ b)) → a < b
     rise k l a b h (inl e) (inl f) = s.rising k l a b h e f
     rise k l a b h (inl e) (inr f) = let z = s.inside k a e in omega (arith, z, f.1)
@@ -89,13 +90,13 @@ passed_over {ps} {k} {i} ns x s e u j p h g hp = by_lt 0 p.width
     (λ w.
     let z = s.all j p (slice_get_within ps j p hp) hp w in
     by_lt z.0 k
-        (λ l. let q = u.below z.0 j z.1 l in absurd (omega (arith, q, h)))
-        (λ l. by_lt k z.0
-            (λ m. let q = s.rising k z.0 x j m e z.1 in absurd (omega (arith, q, g)))
-            (λ m.
-            let d : z.0 ≡ k = omega (arith, l, m) in
-            let q : j ≡ x = one_there ns k j x (ap (λ (y : ℕ). slice_get ns y) (sym d) ∙ z.1) e in
-            absurd (omega (arith, q, g)))))
+    (λ l. let q = u.below z.0 j z.1 l in absurd (omega (arith, q, h)))
+    (λ l. by_lt k z.0
+    (λ m. let q = s.rising k z.0 x j m e z.1 in absurd (omega (arith, q, g)))
+    (λ m.
+    let d : z.0 ≡ k = omega (arith, l, m) in
+    let q : j ≡ x = one_there ns k j x (ap (λ (y : ℕ). slice_get ns y) (sym d) ∙ z.1) e in
+    absurd (omega (arith, q, g)))))
     (λ w. omega (arith, w))
 
 pub left_over : {ps : List Node} {k i : ℕ} (ns : List ℕ) → AreStateful ps (length ps) ns → length ns ≤ k → Upto ns k i → (j : ℕ) (p : Node) → i ≤ j → j < length ps → slice_get ps j ≡ Some p → p.width ≡ 0

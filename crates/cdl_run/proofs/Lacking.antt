@@ -23,7 +23,7 @@ use Rattle.cdl_pass.specs.Net.{Blocks, net_of, sort_at}
 use Rattle.cdl_pass.specs.Tick.{FirstLack, is_none, ready, words_from}
 use Rattle.cdl_pass.proofs.Ready.{length-words_from, none_no_value, ready_values, value_some, word_from}
 use Rattle.cdl_run.specs.Words.{elementary_below, valuation}
-use Rattle.cdl_run.specs.Running.{FirstLacks, Lacks, is_ready}
+use Rattle.cdl_run.specs.Running.{FirstLacks, is_ready}
 use Rattle.cdl_run.specs.inner.Laid.{IsPlaced, rank}
 use Rattle.cdl_run.specs.inner.Setting.{IsSet}
 use Rattle.cdl_run.proofs.Meeting.{seat, windowed}

@@ -7,6 +7,7 @@ ghost use Rattle.cdl_network.specs.Ticks.{Tick};
 ghost use Rattle.cdl_connect.specs.declared.net.NetInstance.{NetInstance as InstanceOf};
 ghost use Rattle.cdl_connect.specs.Nets.{network_of};
 ghost use Rattle.cdl_connect.specs.WellFormed.{AreOfKinds, ArePlain};
+ghost use Rattle.cdl_pass.specs.Absorb.{AreStateful};
 ghost use Rattle.cdl_pass.specs.Net.{AllAt, net_of};
 ghost use Rattle.cdl_pass.specs.Windows.{state_of};
 ghost use Rattle.cdl_run.specs.inner.AnyBlocks.{any_blocks};
@@ -20,7 +21,7 @@ use crate::ResumeFault;
 use crate::layout::{actions_in, blocks_in, outputs_in, rows_in, types_in};
 use cdl_blocks::AnyBlock;
 use cdl_kinds::Steps;
-use cdl_pass::{Action, Node, first_unsound, reset_all, tick_all};
+use cdl_pass::{Action, Node, first_unsound, reset_all, stateful_in, tick_all};
 use cdl_pool::Region;
 use cdl_schedule::Plan;
 use cdl_source::{OutOfMemory, Text};
@@ -41,6 +42,8 @@ struct Parts {
     plan: Plan,
     blocks: Vec<AnyBlock>,
     nodes: Vec<Node>,
+    // The numbers of the blocks with state words.
+    stateful: Vec<usize>,
     // The number of each block's instance.
     instances: Vec<u32>,
     actions: Vec<Action>,
@@ -61,7 +64,9 @@ pub struct Runner {
 }
 
 impl Model for Runner {
+    ghost use Rattle.std.specs.Prelude.{length};
     ghost use Rattle.std.specs.Option.{option_map};
+    ghost use Rattle.cdl_pass.specs.Absorb.{AreStateful};
     ghost use Rattle.cdl_run.specs.inner.AnyBlocks.{any_blocks};
     ghost use Rattle.cdl_run.specs.Running.{Running};
     ghost use Rattle.cdl_run.specs.inner.Ready.{IsFixed, IsReady};
@@ -71,7 +76,8 @@ impl Model for Runner {
     ghost view = { λ r. record { net = r.parts.plan.net; words = r.region.words; last = r.last; fault = option_map (λ f. f.instance) r.fault } };
 
     ghost invariant = { λ r. IsFixed any_blocks r.parts.plan.net r.parts.blocks.items r.parts.nodes.items r.parts.instances.items r.parts.actions.items r.parts.types.items r.parts.rows.items r.parts.outputs.items
-        × IsReady any_blocks r.parts.plan.net r.parts.blocks.items r.parts.nodes.items r.parts.actions.items r.parts.types.items r.parts.rows.items r.region.words r.last (option_map (λ f. f.instance) r.fault) };
+        × IsReady any_blocks r.parts.plan.net r.parts.blocks.items r.parts.nodes.items r.parts.actions.items r.parts.types.items r.parts.rows.items r.region.words r.last (option_map (λ f. f.instance) r.fault)
+        × AreStateful r.parts.nodes.items (length r.parts.nodes.items) r.parts.stateful.items };
 }
 
 // What is made of a plan, and how many words it needs.
@@ -80,10 +86,12 @@ fn parts_of(alloc: Global, plan: Plan) -> Result<(Parts, usize), OutOfMemory>
     requires plain { ArePlain plan.net }
     ensures net { IfOk result (λ f. f.0.plan ≡ plan) }
     ensures fixed { IfOk result (λ f. IsFixed any_blocks plan.net f.0.blocks.items f.0.nodes.items f.0.instances.items f.0.actions.items f.0.types.items f.0.rows.items f.0.outputs.items) }
+    ensures stateful { IfOk result (λ f. AreStateful f.0.nodes.items (length f.0.nodes.items) f.0.stateful.items) }
     ensures size { IfOk result (λ f. f.1 ≡ state_place plan.net (length plan.net.instances)) }
 {
     let net = plan.net().net();
     let (blocks, size) = blocks_in(alloc, net)?;
+    let stateful = stateful_in(alloc, &blocks.nodes)?;
     let actions = actions_in(alloc, net, plan.steps(), blocks.ranks.as_slice())?;
     let types = types_in(alloc, net)?;
     let rows = rows_in(alloc, net)?;
@@ -92,6 +100,7 @@ fn parts_of(alloc: Global, plan: Plan) -> Result<(Parts, usize), OutOfMemory>
         plan,
         blocks: blocks.blocks,
         nodes: blocks.nodes,
+        stateful,
         instances: blocks.instances,
         actions,
         types,
@@ -217,6 +226,7 @@ impl Runner {
             &parts.actions,
             &parts.types,
             &parts.rows,
+            &parts.stateful,
             row,
             words,
             now,

@@ -1,4 +1,4 @@
-use Rattle.std.proofs.Common.{arith, rules, ℕ, ℤ, List, ◌≡◌, ◌<◌, length, ◌∙◌, get_or, refl, sym, ◌+◌}
+use Rattle.std.proofs.Common.{arith, rules, ℕ, ◌≡◌, ◌<◌, length, ◌∙◌, get_or, refl, sym, ◌+◌}
 use Rattle.cdl_source.proofs.Cases.{by_lt}
 use Rattle.std.proofs.lemmas.Int.{to_z-of_z}
 use Rattle.std.proofs.lemmas.Option.{slice_get-get_or, slice_get_within}
@@ -142,8 +142,8 @@ returns-clause-sound g c =
     λ j b p u v.
     let within = slice_get_within c.args.nodes.now j p v in
     by_lt j inv.place
-        (λ k. rw t at (inv.moved.sound j b p u v k))
-        (λ k. rw (inv.moved.todo j b p u v k) ((g.met.B.Elementary.idle b (sym (c.requires.laid.each j b p u v).width ∙ over j p k within v)).1 _ c.requires.sound.0 c.args.now (c.requires.sound.2 j b p u v)))
+    (λ k. rw t at (inv.moved.sound j b p u v k))
+    (λ k. rw (inv.moved.todo j b p u v k) ((g.met.B.Elementary.idle b (sym (c.requires.laid.each j b p u v).width ∙ over j p k within v)).1 _ c.requires.sound.0 c.args.now (c.requires.sound.2 j b p u v)))
 
 pub returns-clause-stands : goal.returns-clause-stands
 returns-clause-stands g c =
@@ -153,5 +153,5 @@ returns-clause-stands g c =
     λ r s j b p u v.
     let within = slice_get_within c.args.nodes.now j p v in
     by_lt j inv.place
-        (λ k. rw t at ((inv.so_far r (rw t s)).done j b p u v k))
-        (λ k. rw (inv.moved.todo j b p u v k) ((g.met.B.Elementary.idle b (sym (c.requires.laid.each j b p u v).width ∙ over j p k within v)).0 _ (r j) _ (s j b p u v).1))
+    (λ k. rw t at ((inv.so_far r (rw t s)).done j b p u v k))
+    (λ k. rw (inv.moved.todo j b p u v k) ((g.met.B.Elementary.idle b (sym (c.requires.laid.each j b p u v).width ∙ over j p k within v)).0 _ (r j) _ (s j b p u v).1))

@@ -44,9 +44,10 @@ invariant_of-result c =
     let size = region_size c.in_ok-region.region c.in_ok-parts.size c.in_ok-region.ensures in
     let same = refilled c.in_ok-region.region.words c.args.words.now c.copy_from_slice.new.self (count ∙ sym size) c.copy_from_slice.ensures.after in
     let sound = rw t at (c.first_unsound_in.ensures.sound (none_is c.first_unsound_in.result c.in_default.not-Some)) in
-    subst (λ (p : NetPlan). IsFixed any_blocks p.net c.in_ok-parts.parts.blocks.items c.in_ok-parts.parts.nodes.items c.in_ok-parts.parts.instances.items c.in_ok-parts.parts.actions.items c.in_ok-parts.parts.types.items c.in_ok-parts.parts.rows.items c.in_ok-parts.parts.outputs.items
+    let made = subst (λ (p : NetPlan). IsFixed any_blocks p.net c.in_ok-parts.parts.blocks.items c.in_ok-parts.parts.nodes.items c.in_ok-parts.parts.instances.items c.in_ok-parts.parts.actions.items c.in_ok-parts.parts.types.items c.in_ok-parts.parts.rows.items c.in_ok-parts.parts.outputs.items
     × IsReady any_blocks p.net c.in_ok-parts.parts.blocks.items c.in_ok-parts.parts.nodes.items c.in_ok-parts.parts.actions.items c.in_ok-parts.parts.types.items c.in_ok-parts.parts.rows.items (refill (length c.in_ok-region.region.words) c.in_ok-region.region.words c.copy_from_slice.new.self) (to_z w64 (of_z w64 c.args.last)) None) (sym c.in_ok-parts.ensures.net)
-    (c.in_ok-parts.ensures.fixed, resumed_ready c.args.words.now _ c.args.last _ same t (count ∙ c.in_ok-parts.ensures.size) sound)
+    (c.in_ok-parts.ensures.fixed, resumed_ready c.args.words.now _ c.args.last _ same t (count ∙ c.in_ok-parts.ensures.size) sound) in
+    (made.0, made.1, c.in_ok-parts.ensures.stateful)
 
 pub returns-clause-ok : goal.returns-clause-ok
 returns-clause-ok c =

@@ -16,9 +16,10 @@ invariant_of-result c =
     let size = region_size c.in_ok-region.region c.in_ok-parts.size c.in_ok-region.ensures ∙ c.in_ok-parts.ensures.size in
     let same = c.reset_all.ensures.size ∙ ap length c.all_mut.ensures.value in
     let sound = rw (c.deref.ensures.value, c.deref-2.ensures.value) at c.reset_all.ensures.sound in
-    subst (λ p. IsFixed any_blocks p.net c.in_ok-parts.parts.blocks.items c.in_ok-parts.parts.nodes.items c.in_ok-parts.parts.instances.items c.in_ok-parts.parts.actions.items c.in_ok-parts.parts.types.items c.in_ok-parts.parts.rows.items c.in_ok-parts.parts.outputs.items
+    let made = subst (λ p. IsFixed any_blocks p.net c.in_ok-parts.parts.blocks.items c.in_ok-parts.parts.nodes.items c.in_ok-parts.parts.instances.items c.in_ok-parts.parts.actions.items c.in_ok-parts.parts.types.items c.in_ok-parts.parts.rows.items c.in_ok-parts.parts.outputs.items
     × IsReady any_blocks p.net c.in_ok-parts.parts.blocks.items c.in_ok-parts.parts.nodes.items c.in_ok-parts.parts.actions.items c.in_ok-parts.parts.types.items c.in_ok-parts.parts.rows.items (refill (length c.in_ok-region.region.words) c.in_ok-region.region.words c.reset_all.new.words) (negsuc 0) None) (sym c.in_ok-parts.ensures.net)
-    (c.in_ok-parts.ensures.fixed, start_ready c.in_ok-region.region.words c.reset_all.new.words None size same sound)
+    (c.in_ok-parts.ensures.fixed, start_ready c.in_ok-region.region.words c.reset_all.new.words None size same sound) in
+    (made.0, made.1, c.in_ok-parts.ensures.stateful)
 
 pub returns-clause-stands : goal.returns-clause-stands
 returns-clause-stands c =

@@ -27,6 +27,9 @@ tick_all-requires-clause-laid g c = rw (c.deref.ensures.value, c.deref-2.ensures
 pub tick_all-requires-clause-planned : goal.tick_all-requires-clause-planned
 tick_all-requires-clause-planned g c = rw (c.deref.ensures.value, c.deref-2.ensures.value, c.deref-3.ensures.value, c.deref-4.ensures.value, c.deref-5.ensures.value) (planned_at c.self.invariant.0.set)
 
+pub tick_all-requires-clause-stateful : goal.tick_all-requires-clause-stateful
+tick_all-requires-clause-stateful g c = rw (c.deref-2.ensures.value, c.deref-6.ensures.value) c.self.invariant.2
+
 pub tick_all-requires-clause-row : goal.tick_all-requires-clause-row
 tick_all-requires-clause-row g c = rw c.deref-5.ensures.value (row_at c.args.row.now c.self.invariant.0.set (subst (λ r. IsRow r.net c.args.row.now) (sym c.self.view_is) c.requires.row))
 
@@ -40,7 +43,7 @@ pub invariant_of-self : goal.invariant_of-self
 invariant_of-self g c =
     let size = c.in-Ok.ensures.size ∙ ap length c.all_mut-words.ensures.value in
     let sound = rw (c.deref.ensures.value, c.deref-2.ensures.value) at c.in-Ok.ensures.sound in
-    (c.self.invariant.0, next_ready c.self.inside.region.words c.tick_all.new.words _ _ _ c.self.invariant.1 size sound)
+    (c.self.invariant.0, next_ready c.self.inside.region.words c.tick_all.new.words _ _ _ c.self.invariant.1 size sound, c.self.invariant.2)
 
 pub index-requires : goal.index-requires
 index-requires g c =
