@@ -1,7 +1,1 @@
-pub mod Keeping
-pub mod Leading
-pub mod Linking
-pub mod Nodes
-pub mod Rows
-pub mod StepSizes
 pub mod Telling

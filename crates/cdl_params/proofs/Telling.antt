@@ -1,10 +1,10 @@
 -- What is said of the same files.
-use Rattle.std.proofs.Common.{ℕ, ◌≡◌, subst, List, Result, []}
+use Rattle.std.proofs.Common.{ℕ, ◌≡◌, sym, subst, List, Result, Ok, []}
 use Rattle.cdl_values.specs.declared.value.Array.{Array}
 use Rattle.cdl_tree.specs.declared.class.FileTree.{FileTree}
 use Rattle.cdl_tree.specs.declared.class.Item.{Item}
 use Rattle.cdl_tree.specs.declared.expr.Expr.{Expr}
-use Rattle.cdl_array.specs.Outcomes.{Answers}
+use Rattle.cdl_array.specs.Outcomes.{Answers, Outcome, then_to}
 use Rattle.cdl_array.specs.declared.fault.EvalFault.{EvalFault}
 use Rattle.cdl_scopes.specs.Classes.{declared}
 use Rattle.cdl_paths.specs.declared.path.Local.{Local}
@@ -24,3 +24,7 @@ same_dims fs files d q r p y x e k h = subst (λ (f : List FileTree). Answers (s
 
 pub same_unit : (fs files : List FileTree) (d r : ℕ) (p : Steps) (n : List ℕ) (x : Result Array EvalFault) → fs ≡ files → Answers (unit (declared fs) d r p n) x → Answers (unit (declared files) d r p n) x
 same_unit fs files d r p n x e h = subst (λ (f : List FileTree). Answers (unit (declared f) d r p n) x) e h
+
+-- what stands behind a value
+pub then_value : {A B : Type 0} (o : Outcome A) (f : A → Outcome B) (v : A) (x : Result B EvalFault) → o ≡ Ok v → Answers (f v) x → Answers (then_to o f) x
+then_value {A} {B} o f v x e h = subst (λ (o : Outcome A). Answers (then_to o f) x) (sym e) h

@@ -10,15 +10,14 @@ ghost use Rattle.cdl_values.specs.declared.value.Value.TheVariants as value_is;
 ghost use Rattle.cdl_scopes.specs.Classes.{declared};
 ghost use Rattle.cdl_source.specs.declared.rules.TheConstants.{PARAMETER_WITHOUT_VALUE as WITHOUT_VALUE};
 ghost use Rattle.cdl_worth.specs.Values as values;
-ghost use Rattle.cdl_params.specs.Leads.{Leads};
-ghost use Rattle.cdl_params.specs.Places.{link_of, sizes_of_steps, weight_of};
+ghost use Rattle.cdl_eval.specs.Leads.{Leads};
+ghost use Rattle.cdl_eval.specs.Places.{link_of, sizes_of_steps, weight_of};
 
-use crate::eval::Evaluator;
-use crate::kept::Elaborator;
-use crate::place::Place;
+use crate::value::Valuation;
 use cdl_array::{EvalFault, scalar, size_of};
 use cdl_classes::{ClassId, Found};
 use cdl_decimal::Real;
+use cdl_eval::{Place, Store};
 use cdl_kinds::{Kind, Parameter, Preset, parameters};
 use cdl_paths::{Binding, Giver, Step, binding_of, row_named};
 use cdl_source::rules::{PARAMETER_WITHOUT_VALUE, UNKNOWN_NAME};
@@ -111,28 +110,28 @@ fn one_size(alloc: Global, size: u32) -> Result<List<Option<u32>>, EvalFault>
     Ok(sizes)
 }
 
-impl<
+impl<'t, F: Fn(&mut Store<'_>, u32, ClassId, &[Step], &[u8]) -> Result<Array, EvalFault>> Valuation<
     't,
-    F: Fn(&mut Elaborator<'_>, u32, ClassId, &[Step], &[u8]) -> Result<Array, EvalFault>,
-> Evaluator<'t, F> {
+    F,
+> {
     // The declared sizes of a parameter of a kind.
     fn row_sizes(
         &self,
-        e: &mut Elaborator<'_>,
+        e: &mut Store<'_>,
         place: &Place<'_>,
         kind: Kind,
         per_nin: bool,
     ) -> Result<List<Option<u32>>, EvalFault>
-        requires files { e.old.files ≡ self.now.table.now }
-        requires leads { Leads (weight_of place.now) (F.pre self.now.link) (F.post self.now.link) }
+        requires files { e.old.files ≡ self.now.evaluator.table.now }
+        requires leads { Leads (weight_of place.now) (F.pre self.now.evaluator.link) (F.post self.now.evaluator.link) }
         ensures same { e.new ≡ e.old }
-        ensures answers { Answers (values.row_sizes (values.nin_of (declared self.now.table.now) (link_of self.now.table.now place.now) place.now.start.index (sizes_of_steps self.now.table.now place.now) place.now.steps.now kind) per_nin) result }
+        ensures answers { Answers (values.row_sizes (values.nin_of (declared self.now.evaluator.table.now) (link_of self.now.evaluator.table.now place.now) place.now.start.index (sizes_of_steps self.now.evaluator.table.now place.now) place.now.steps.now kind) per_nin) result }
     {
         if !per_nin {
-            return Ok(List::new(self.alloc));
+            return Ok(List::new(self.evaluator.alloc));
         }
         match self.inputs(e, place, kind) {
-            Ok(inputs) => one_size(self.alloc, inputs),
+            Ok(inputs) => one_size(self.evaluator.alloc, inputs),
             Err(fault) => Err(fault),
         }
     }
@@ -140,18 +139,18 @@ impl<
     // The value that is given to a parameter of a kind.
     fn given_row(
         &self,
-        e: &mut Elaborator<'_>,
+        e: &mut Store<'_>,
         place: &Place<'_>,
         kind: Kind,
         row: &Parameter,
         giver: &Giver<'_>,
     ) -> Result<Array, EvalFault>
-        requires files { e.old.files ≡ self.now.table.now }
-        requires leads { Leads (weight_of place.now) (F.pre self.now.link) (F.post self.now.link) }
+        requires files { e.old.files ≡ self.now.evaluator.table.now }
+        requires leads { Leads (weight_of place.now) (F.pre self.now.evaluator.link) (F.post self.now.evaluator.link) }
         ensures same { e.new ≡ e.old }
-        ensures answers { Answers (values.given_value (declared self.now.table.now) (link_of self.now.table.now place.now) place.now.start.index (sizes_of_steps self.now.table.now place.now) place.now.steps.now row.now.name.now row.now.value_type (values.row_sizes (values.nin_of (declared self.now.table.now) (link_of self.now.table.now place.now) place.now.start.index (sizes_of_steps self.now.table.now place.now) place.now.steps.now kind) row.now.per_nin) (the_given giver.now.steps giver.now.args.now giver.now.value.now)) result }
+        ensures answers { Answers (values.given_value (declared self.now.evaluator.table.now) (link_of self.now.evaluator.table.now place.now) place.now.start.index (sizes_of_steps self.now.evaluator.table.now place.now) place.now.steps.now row.now.name.now row.now.value_type (values.row_sizes (values.nin_of (declared self.now.evaluator.table.now) (link_of self.now.evaluator.table.now place.now) place.now.start.index (sizes_of_steps self.now.evaluator.table.now place.now) place.now.steps.now kind) row.now.per_nin) (the_given giver.now.steps giver.now.args.now giver.now.value.now)) result }
     {
-        let value = match self.written(e, place, giver) {
+        let value = match self.evaluator.written(e, place, giver) {
             Ok(value) => value,
             Err(fault) => return Err(fault),
         };
@@ -167,21 +166,21 @@ impl<
     // The value that is given to a parameter that rests on no other of its kind.
     fn given_plain(
         &self,
-        e: &mut Elaborator<'_>,
+        e: &mut Store<'_>,
         place: &Place<'_>,
         row: &Parameter,
         giver: &Giver<'_>,
     ) -> Result<Array, EvalFault>
-        requires files { e.old.files ≡ self.now.table.now }
-        requires leads { Leads (weight_of place.now) (F.pre self.now.link) (F.post self.now.link) }
+        requires files { e.old.files ≡ self.now.evaluator.table.now }
+        requires leads { Leads (weight_of place.now) (F.pre self.now.evaluator.link) (F.post self.now.evaluator.link) }
         ensures same { e.new ≡ e.old }
-        ensures answers { Answers (values.given_value (declared self.now.table.now) (link_of self.now.table.now place.now) place.now.start.index (sizes_of_steps self.now.table.now place.now) place.now.steps.now row.now.name.now row.now.value_type (values.row_sizes (Err WITHOUT_VALUE) row.now.per_nin) (the_given giver.now.steps giver.now.args.now giver.now.value.now)) result }
+        ensures answers { Answers (values.given_value (declared self.now.evaluator.table.now) (link_of self.now.evaluator.table.now place.now) place.now.start.index (sizes_of_steps self.now.evaluator.table.now place.now) place.now.steps.now row.now.name.now row.now.value_type (values.row_sizes (Err WITHOUT_VALUE) row.now.per_nin) (the_given giver.now.steps giver.now.args.now giver.now.value.now)) result }
     {
-        let value = match self.written(e, place, giver) {
+        let value = match self.evaluator.written(e, place, giver) {
             Ok(value) => value,
             Err(fault) => return Err(fault),
         };
-        match plain_sizes(self.alloc, row.per_nin) {
+        match plain_sizes(self.evaluator.alloc, row.per_nin) {
             Ok(own) => {
                 let name = row.name.as_bytes();
                 self.handed(e, place, name, row.value_type, own.items(), giver, &value)
@@ -193,36 +192,36 @@ impl<
     // The value of a parameter that rests on no other of its kind, with this binding.
     fn bound_plain(
         &self,
-        e: &mut Elaborator<'_>,
+        e: &mut Store<'_>,
         place: &Place<'_>,
         row: &Parameter,
         binding: &Binding<'_>,
     ) -> Result<Array, EvalFault>
-        requires files { e.old.files ≡ self.now.table.now }
-        requires leads { Leads (weight_of place.now) (F.pre self.now.link) (F.post self.now.link) }
+        requires files { e.old.files ≡ self.now.evaluator.table.now }
+        requires leads { Leads (weight_of place.now) (F.pre self.now.evaluator.link) (F.post self.now.evaluator.link) }
         ensures same { e.new ≡ e.old }
-        ensures answers { Answers (values.row_bound (declared self.now.table.now) (link_of self.now.table.now place.now) place.now.start.index (sizes_of_steps self.now.table.now place.now) place.now.steps.now (λ j. Err WITHOUT_VALUE) (Err WITHOUT_VALUE) (parameter_row row.now) (Some (bound binding.now))) result }
+        ensures answers { Answers (values.row_bound (declared self.now.evaluator.table.now) (link_of self.now.evaluator.table.now place.now) place.now.start.index (sizes_of_steps self.now.evaluator.table.now place.now) place.now.steps.now (λ j. Err WITHOUT_VALUE) (Err WITHOUT_VALUE) (parameter_row row.now) (Some (bound binding.now))) result }
     {
         match binding {
             Binding::Text(giver) => self.given_plain(e, place, row, giver),
-            Binding::Kind(preset) => plain_preset(self.alloc, row.value_type, *preset),
+            Binding::Kind(preset) => plain_preset(self.evaluator.alloc, row.value_type, *preset),
         }
     }
 
     // The value of a parameter that rests on no other of its kind.
     fn plain_value(
         &self,
-        e: &mut Elaborator<'_>,
+        e: &mut Store<'_>,
         place: &Place<'_>,
         row: &Parameter,
     ) -> Result<Array, EvalFault>
-        requires files { e.old.files ≡ self.now.table.now }
-        requires leads { Leads (weight_of place.now) (F.pre self.now.link) (F.post self.now.link) }
+        requires files { e.old.files ≡ self.now.evaluator.table.now }
+        requires leads { Leads (weight_of place.now) (F.pre self.now.evaluator.link) (F.post self.now.evaluator.link) }
         ensures same { e.new ≡ e.old }
-        ensures answers { Answers (values.plain_value (declared self.now.table.now) (link_of self.now.table.now place.now) place.now.start.index (sizes_of_steps self.now.table.now place.now) place.now.steps.now (Some (parameter_row row.now))) result }
+        ensures answers { Answers (values.plain_value (declared self.now.evaluator.table.now) (link_of self.now.evaluator.table.now place.now) place.now.start.index (sizes_of_steps self.now.evaluator.table.now place.now) place.now.steps.now (Some (parameter_row row.now))) result }
     {
         match binding_of(
-            self.table,
+            self.evaluator.table,
             Found::Class(place.start),
             place.steps,
             row.name.as_bytes(),
@@ -235,14 +234,14 @@ impl<
     // The value of a parameter that rests on no other of its kind, where there is one.
     fn plain_row(
         &self,
-        e: &mut Elaborator<'_>,
+        e: &mut Store<'_>,
         place: &Place<'_>,
         row: Option<&Parameter>,
     ) -> Result<Array, EvalFault>
-        requires files { e.old.files ≡ self.now.table.now }
-        requires leads { Leads (weight_of place.now) (F.pre self.now.link) (F.post self.now.link) }
+        requires files { e.old.files ≡ self.now.evaluator.table.now }
+        requires leads { Leads (weight_of place.now) (F.pre self.now.evaluator.link) (F.post self.now.evaluator.link) }
         ensures same { e.new ≡ e.old }
-        ensures answers { Answers (values.plain_value (declared self.now.table.now) (link_of self.now.table.now place.now) place.now.start.index (sizes_of_steps self.now.table.now place.now) place.now.steps.now (option_map (λ r. parameter_row r.now) row.entry)) result }
+        ensures answers { Answers (values.plain_value (declared self.now.evaluator.table.now) (link_of self.now.evaluator.table.now place.now) place.now.start.index (sizes_of_steps self.now.evaluator.table.now place.now) place.now.steps.now (option_map (λ r. parameter_row r.now) row.entry)) result }
     {
         match row {
             Some(row) => self.plain_value(e, place, row),
@@ -251,16 +250,11 @@ impl<
     }
 
     // How many inputs an instance of a kind has.
-    fn inputs(
-        &self,
-        e: &mut Elaborator<'_>,
-        place: &Place<'_>,
-        kind: Kind,
-    ) -> Result<u32, EvalFault>
-        requires files { e.old.files ≡ self.now.table.now }
-        requires leads { Leads (weight_of place.now) (F.pre self.now.link) (F.post self.now.link) }
+    fn inputs(&self, e: &mut Store<'_>, place: &Place<'_>, kind: Kind) -> Result<u32, EvalFault>
+        requires files { e.old.files ≡ self.now.evaluator.table.now }
+        requires leads { Leads (weight_of place.now) (F.pre self.now.evaluator.link) (F.post self.now.evaluator.link) }
         ensures same { e.new ≡ e.old }
-        ensures answers { Answers (values.nin_of (declared self.now.table.now) (link_of self.now.table.now place.now) place.now.start.index (sizes_of_steps self.now.table.now place.now) place.now.steps.now kind) result }
+        ensures answers { Answers (values.nin_of (declared self.now.evaluator.table.now) (link_of self.now.evaluator.table.now place.now) place.now.start.index (sizes_of_steps self.now.evaluator.table.now place.now) place.now.steps.now kind) result }
     {
         self.ports(e, place, kind, INPUTS.as_bytes())
     }
@@ -268,15 +262,15 @@ impl<
     /// How many ports an instance of a kind has, as this parameter says.
     pub fn ports(
         &self,
-        e: &mut Elaborator<'_>,
+        e: &mut Store<'_>,
         place: &Place<'_>,
         kind: Kind,
         name: &[u8],
     ) -> Result<u32, EvalFault>
-        requires files { e.old.files ≡ self.now.table.now }
-        requires leads { Leads (weight_of place.now) (F.pre self.now.link) (F.post self.now.link) }
+        requires files { e.old.files ≡ self.now.evaluator.table.now }
+        requires leads { Leads (weight_of place.now) (F.pre self.now.evaluator.link) (F.post self.now.evaluator.link) }
         ensures same { e.new ≡ e.old }
-        ensures answers { Answers (then_to (values.plain_value (declared self.now.table.now) (link_of self.now.table.now place.now) place.now.start.index (sizes_of_steps self.now.table.now place.now) place.now.steps.now (row_in name.now (parameters_of kind))) size_in) result }
+        ensures answers { Answers (then_to (values.plain_value (declared self.now.evaluator.table.now) (link_of self.now.evaluator.table.now place.now) place.now.start.index (sizes_of_steps self.now.evaluator.table.now place.now) place.now.steps.now (row_in name.now (parameters_of kind))) size_in) result }
     {
         match self.plain_row(e, place, row_named(kind, name)) {
             Ok(count) => size_of(&count),
@@ -287,16 +281,16 @@ impl<
     // A default.
     fn preset(
         &self,
-        e: &mut Elaborator<'_>,
+        e: &mut Store<'_>,
         place: &Place<'_>,
         kind: Kind,
         value_type: ValueType,
         preset: Preset,
     ) -> Result<Array, EvalFault>
-        requires files { e.old.files ≡ self.now.table.now }
-        requires leads { Leads (weight_of place.now) (F.pre self.now.link) (F.post self.now.link) }
+        requires files { e.old.files ≡ self.now.evaluator.table.now }
+        requires leads { Leads (weight_of place.now) (F.pre self.now.evaluator.link) (F.post self.now.evaluator.link) }
         ensures same { e.new ≡ e.old }
-        ensures answers { Answers (values.preset_value (λ j. values.plain_value (declared self.now.table.now) (link_of self.now.table.now place.now) place.now.start.index (sizes_of_steps self.now.table.now place.now) place.now.steps.now (slice_get (parameters_of kind) j)) (values.nin_of (declared self.now.table.now) (link_of self.now.table.now place.now) place.now.start.index (sizes_of_steps self.now.table.now place.now) place.now.steps.now kind) value_type preset) result }
+        ensures answers { Answers (values.preset_value (λ j. values.plain_value (declared self.now.evaluator.table.now) (link_of self.now.evaluator.table.now place.now) place.now.start.index (sizes_of_steps self.now.evaluator.table.now place.now) place.now.steps.now (slice_get (parameters_of kind) j)) (values.nin_of (declared self.now.evaluator.table.now) (link_of self.now.evaluator.table.now place.now) place.now.start.index (sizes_of_steps self.now.evaluator.table.now place.now) place.now.steps.now kind) value_type preset) result }
     {
         match preset {
             Preset::Absent => Err(EvalFault::Rule(PARAMETER_WITHOUT_VALUE)),
@@ -304,28 +298,28 @@ impl<
                 self.plain_row(e, place, parameters(kind).get(number as usize))
             }
             Preset::Ones => match self.inputs(e, place, kind) {
-                Ok(count) => ones(self.alloc, value_type, count),
+                Ok(count) => ones(self.evaluator.alloc, value_type, count),
                 Err(fault) => Err(fault),
             },
-            Preset::Boolean(truth) => scalar(self.alloc, Value::Boolean(truth)),
-            Preset::Integer(integer) => scalar(self.alloc, Value::Integer(integer)),
-            Preset::Real(count) => preset_real(self.alloc, count),
+            Preset::Boolean(truth) => scalar(self.evaluator.alloc, Value::Boolean(truth)),
+            Preset::Integer(integer) => scalar(self.evaluator.alloc, Value::Integer(integer)),
+            Preset::Real(count) => preset_real(self.evaluator.alloc, count),
         }
     }
 
     // The value of a parameter of a kind with this binding.
     fn bound_row(
         &self,
-        e: &mut Elaborator<'_>,
+        e: &mut Store<'_>,
         place: &Place<'_>,
         kind: Kind,
         row: &Parameter,
         binding: &Binding<'_>,
     ) -> Result<Array, EvalFault>
-        requires files { e.old.files ≡ self.now.table.now }
-        requires leads { Leads (weight_of place.now) (F.pre self.now.link) (F.post self.now.link) }
+        requires files { e.old.files ≡ self.now.evaluator.table.now }
+        requires leads { Leads (weight_of place.now) (F.pre self.now.evaluator.link) (F.post self.now.evaluator.link) }
         ensures same { e.new ≡ e.old }
-        ensures answers { Answers (values.row_bound (declared self.now.table.now) (link_of self.now.table.now place.now) place.now.start.index (sizes_of_steps self.now.table.now place.now) place.now.steps.now (λ j. values.plain_value (declared self.now.table.now) (link_of self.now.table.now place.now) place.now.start.index (sizes_of_steps self.now.table.now place.now) place.now.steps.now (slice_get (parameters_of kind) j)) (values.nin_of (declared self.now.table.now) (link_of self.now.table.now place.now) place.now.start.index (sizes_of_steps self.now.table.now place.now) place.now.steps.now kind) (parameter_row row.now) (Some (bound binding.now))) result }
+        ensures answers { Answers (values.row_bound (declared self.now.evaluator.table.now) (link_of self.now.evaluator.table.now place.now) place.now.start.index (sizes_of_steps self.now.evaluator.table.now place.now) place.now.steps.now (λ j. values.plain_value (declared self.now.evaluator.table.now) (link_of self.now.evaluator.table.now place.now) place.now.start.index (sizes_of_steps self.now.evaluator.table.now place.now) place.now.steps.now (slice_get (parameters_of kind) j)) (values.nin_of (declared self.now.evaluator.table.now) (link_of self.now.evaluator.table.now place.now) place.now.start.index (sizes_of_steps self.now.evaluator.table.now place.now) place.now.steps.now kind) (parameter_row row.now) (Some (bound binding.now))) result }
     {
         match binding {
             Binding::Text(giver) => self.given_row(e, place, kind, row, giver),
@@ -336,18 +330,18 @@ impl<
     // The value of a parameter of a kind.
     fn row_value(
         &self,
-        e: &mut Elaborator<'_>,
+        e: &mut Store<'_>,
         place: &Place<'_>,
         kind: Kind,
         row: &Parameter,
     ) -> Result<Array, EvalFault>
-        requires files { e.old.files ≡ self.now.table.now }
-        requires leads { Leads (weight_of place.now) (F.pre self.now.link) (F.post self.now.link) }
+        requires files { e.old.files ≡ self.now.evaluator.table.now }
+        requires leads { Leads (weight_of place.now) (F.pre self.now.evaluator.link) (F.post self.now.evaluator.link) }
         ensures same { e.new ≡ e.old }
-        ensures answers { Answers (values.kind_value (declared self.now.table.now) (link_of self.now.table.now place.now) place.now.start.index (sizes_of_steps self.now.table.now place.now) place.now.steps.now kind (parameter_row row.now)) result }
+        ensures answers { Answers (values.kind_value (declared self.now.evaluator.table.now) (link_of self.now.evaluator.table.now place.now) place.now.start.index (sizes_of_steps self.now.evaluator.table.now place.now) place.now.steps.now kind (parameter_row row.now)) result }
     {
         match binding_of(
-            self.table,
+            self.evaluator.table,
             Found::Class(place.start),
             place.steps,
             row.name.as_bytes(),
@@ -360,15 +354,15 @@ impl<
     /// The value of the parameter of this name of a kind, of which an instance stands at the place.
     pub fn kind_value(
         &self,
-        e: &mut Elaborator<'_>,
+        e: &mut Store<'_>,
         place: &Place<'_>,
         kind: Kind,
         name: &[u8],
     ) -> Result<Array, EvalFault>
-        requires files { e.old.files ≡ self.now.table.now }
-        requires leads { Leads (weight_of place.now) (F.pre self.now.link) (F.post self.now.link) }
+        requires files { e.old.files ≡ self.now.evaluator.table.now }
+        requires leads { Leads (weight_of place.now) (F.pre self.now.evaluator.link) (F.post self.now.evaluator.link) }
         ensures same { e.new ≡ e.old }
-        ensures answers { Answers (some_or (row_in name.now (parameters_of kind)) UNKNOWN_NAME (values.kind_value (declared self.now.table.now) (link_of self.now.table.now place.now) place.now.start.index (sizes_of_steps self.now.table.now place.now) place.now.steps.now kind)) result }
+        ensures answers { Answers (some_or (row_in name.now (parameters_of kind)) UNKNOWN_NAME (values.kind_value (declared self.now.evaluator.table.now) (link_of self.now.evaluator.table.now place.now) place.now.start.index (sizes_of_steps self.now.evaluator.table.now place.now) place.now.steps.now kind)) result }
     {
         match row_named(kind, name) {
             Some(row) => self.row_value(e, place, kind, row),

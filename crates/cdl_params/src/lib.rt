@@ -2,14 +2,11 @@
 #![tactic(auto)]
 
 mod calls;
-mod eval;
-mod kept;
+mod elaborator;
 mod kinds;
-mod place;
-mod sizes;
 mod units;
 mod value;
 
 pub use cdl_array::EvalFault;
 pub use cdl_paths::{Local, Path, Step};
-pub use kept::Elaborator;
+pub use elaborator::Elaborator;

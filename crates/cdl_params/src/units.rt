@@ -7,21 +7,19 @@ ghost use Rattle.cdl_paths.specs.HandOut as handing;
 ghost use Rattle.cdl_scopes.specs.Classes.{declared};
 ghost use Rattle.cdl_worth.specs.Units as spec;
 ghost use Rattle.cdl_worth.specs.Values as values;
-ghost use Rattle.cdl_params.specs.Leads.{Leads};
-ghost use Rattle.cdl_params.specs.Places.{link_of, sizes_of_steps, weight_of, worth_at};
+ghost use Rattle.cdl_eval.specs.Leads.{Leads};
+ghost use Rattle.cdl_eval.specs.Places.{link_of, sizes_of_steps, weight_of, worth_at};
 ghost use Rattle.cdl_array.specs.Scalars.{scalar as scalar_in};
 ghost use Rattle.cdl_values.specs.declared.value.Value.TheVariants as value_is;
 ghost use Rattle.cdl_paths.specs.Members.{member as member_in, site as site_of};
 ghost use Rattle.cdl_worth.specs.Sizes.{member_sizes as sizes_of_member};
 ghost use Rattle.cdl_classes.specs.declared.found.Found.TheVariants as found_is;
 
-use crate::eval::Evaluator;
-use crate::kept::Elaborator;
 use crate::kinds::INPUTS;
-use crate::place::{Place, behind, behind_next, copy_steps};
-use crate::sizes::{push_all, wanted};
+use crate::value::Valuation;
 use cdl_array::{EvalFault, scalar};
 use cdl_classes::{ClassId, Found};
+use cdl_eval::{Place, Store, behind, behind_next, copy_steps, push_all, wanted};
 use cdl_kinds::{Group, Kind, input_groups, output_groups};
 use cdl_paths::{Binding, Giver, Step, binding_of, eaches, indices_left, member_of, site, units};
 use cdl_source::rules::UNKNOWN_NAME;
@@ -92,26 +90,26 @@ fn no_units(alloc: Global, shape: List<u32>) -> Result<Array, EvalFault>
     }
 }
 
-impl<
+impl<'t, F: Fn(&mut Store<'_>, u32, ClassId, &[Step], &[u8]) -> Result<Array, EvalFault>> Valuation<
     't,
-    F: Fn(&mut Elaborator<'_>, u32, ClassId, &[Step], &[u8]) -> Result<Array, EvalFault>,
-> Evaluator<'t, F> {
+    F,
+> {
     // The size of a port, one of many where this parameter says how many.
     fn many_sizes(
         &self,
-        e: &mut Elaborator<'_>,
+        e: &mut Store<'_>,
         place: &Place<'_>,
         kind: Kind,
         many: bool,
         name: &str,
     ) -> Result<List<u32>, EvalFault>
-        requires files { e.old.files ≡ self.now.table.now }
-        requires leads { Leads (weight_of place.now) (F.pre self.now.link) (F.post self.now.link) }
+        requires files { e.old.files ≡ self.now.evaluator.table.now }
+        requires leads { Leads (weight_of place.now) (F.pre self.now.evaluator.link) (F.post self.now.evaluator.link) }
         ensures same { e.new ≡ e.old }
-        ensures answers { Answers (spec.many_sizes (spec.ports_of (declared self.now.table.now) (link_of self.now.table.now place.now) place.now.start.index (sizes_of_steps self.now.table.now place.now) place.now.steps.now kind name.now) many) result }
+        ensures answers { Answers (spec.many_sizes (spec.ports_of (declared self.now.evaluator.table.now) (link_of self.now.evaluator.table.now place.now) place.now.start.index (sizes_of_steps self.now.evaluator.table.now place.now) place.now.steps.now kind name.now) many) result }
         ensures few { IfOk result (λ ns. length ns ≤ 2) }
     {
-        let mut sizes = List::new(self.alloc);
+        let mut sizes = List::new(self.evaluator.alloc);
         if !many {
             return Ok(sizes);
         }
@@ -127,15 +125,15 @@ impl<
     // The sizes of a port of a kind.
     fn port_sizes(
         &self,
-        e: &mut Elaborator<'_>,
+        e: &mut Store<'_>,
         place: &Place<'_>,
         kind: Kind,
         name: &[u8],
     ) -> Result<List<u32>, EvalFault>
-        requires files { e.old.files ≡ self.now.table.now }
-        requires leads { Leads (weight_of place.now) (F.pre self.now.link) (F.post self.now.link) }
+        requires files { e.old.files ≡ self.now.evaluator.table.now }
+        requires leads { Leads (weight_of place.now) (F.pre self.now.evaluator.link) (F.post self.now.evaluator.link) }
         ensures same { e.new ≡ e.old }
-        ensures answers { Answers (spec.connector_sizes (declared self.now.table.now) (link_of self.now.table.now place.now) place.now.start.index (sizes_of_steps self.now.table.now place.now) place.now.steps.now name.now (Some (found_is.Kind kind))) result }
+        ensures answers { Answers (spec.connector_sizes (declared self.now.evaluator.table.now) (link_of self.now.evaluator.table.now place.now) place.now.start.index (sizes_of_steps self.now.evaluator.table.now place.now) place.now.steps.now name.now (Some (found_is.Kind kind))) result }
         ensures few { IfOk result (λ ns. length ns ≤ 2) }
     {
         if let Some(group) = group_named(input_groups(kind), name) {
@@ -150,19 +148,19 @@ impl<
     // The sizes of a connector of a declared class, which stands at the place.
     fn item_sizes(
         &self,
-        e: &mut Elaborator<'_>,
+        e: &mut Store<'_>,
         place: &Place<'_>,
         class: ClassId,
         name: &[u8],
     ) -> Result<List<u32>, EvalFault>
-        requires files { e.old.files ≡ self.now.table.now }
-        requires leads { Leads (weight_of place.now) (F.pre self.now.link) (F.post self.now.link) }
+        requires files { e.old.files ≡ self.now.evaluator.table.now }
+        requires leads { Leads (weight_of place.now) (F.pre self.now.evaluator.link) (F.post self.now.evaluator.link) }
         ensures same { e.new ≡ e.old }
-        ensures answers { Answers (sizes_of_member (worth_at self.now.table.now place.now []) (member_in (declared self.now.table.now) class.index name.now)) result }
+        ensures answers { Answers (sizes_of_member (worth_at self.now.evaluator.table.now place.now []) (member_in (declared self.now.evaluator.table.now) class.index name.now)) result }
         ensures few { IfOk result (λ ns. length ns ≤ 2) }
     {
-        match member_of(self.table, class, name) {
-            Some(member) => self.sizes(e, place, member.item.dims.items()),
+        match member_of(self.evaluator.table, class, name) {
+            Some(member) => self.evaluator.sizes(e, place, member.item.dims.items()),
             None => Err(EvalFault::Rule(UNKNOWN_NAME)),
         }
     }
@@ -170,15 +168,15 @@ impl<
     // The sizes of a connector of what stands at the place.
     fn sizes_in(
         &self,
-        e: &mut Elaborator<'_>,
+        e: &mut Store<'_>,
         place: &Place<'_>,
         found: Found,
         name: &[u8],
     ) -> Result<List<u32>, EvalFault>
-        requires files { e.old.files ≡ self.now.table.now }
-        requires leads { Leads (weight_of place.now) (F.pre self.now.link) (F.post self.now.link) }
+        requires files { e.old.files ≡ self.now.evaluator.table.now }
+        requires leads { Leads (weight_of place.now) (F.pre self.now.evaluator.link) (F.post self.now.evaluator.link) }
         ensures same { e.new ≡ e.old }
-        ensures answers { Answers (spec.connector_sizes (declared self.now.table.now) (link_of self.now.table.now place.now) place.now.start.index (sizes_of_steps self.now.table.now place.now) place.now.steps.now name.now (Some found)) result }
+        ensures answers { Answers (spec.connector_sizes (declared self.now.evaluator.table.now) (link_of self.now.evaluator.table.now place.now) place.now.start.index (sizes_of_steps self.now.evaluator.table.now place.now) place.now.steps.now name.now (Some found)) result }
         ensures few { IfOk result (λ ns. length ns ≤ 2) }
     {
         match found {
@@ -191,17 +189,17 @@ impl<
     // The sizes of a connector.
     fn connector_sizes(
         &self,
-        e: &mut Elaborator<'_>,
+        e: &mut Store<'_>,
         place: &Place<'_>,
         name: &[u8],
     ) -> Result<List<u32>, EvalFault>
-        requires files { e.old.files ≡ self.now.table.now }
-        requires leads { Leads (weight_of place.now) (F.pre self.now.link) (F.post self.now.link) }
+        requires files { e.old.files ≡ self.now.evaluator.table.now }
+        requires leads { Leads (weight_of place.now) (F.pre self.now.evaluator.link) (F.post self.now.evaluator.link) }
         ensures same { e.new ≡ e.old }
-        ensures answers { Answers (spec.connector_sizes (declared self.now.table.now) (link_of self.now.table.now place.now) place.now.start.index (sizes_of_steps self.now.table.now place.now) place.now.steps.now name.now (site_of (declared self.now.table.now) (values.the_class place.now.start.index) place.now.steps.now)) result }
+        ensures answers { Answers (spec.connector_sizes (declared self.now.evaluator.table.now) (link_of self.now.evaluator.table.now place.now) place.now.start.index (sizes_of_steps self.now.evaluator.table.now place.now) place.now.steps.now name.now (site_of (declared self.now.evaluator.table.now) (values.the_class place.now.start.index) place.now.steps.now)) result }
         ensures few { IfOk result (λ ns. length ns ≤ 2) }
     {
-        match site(self.table, Found::Class(place.start), place.steps) {
+        match site(self.evaluator.table, Found::Class(place.start), place.steps) {
             Some(found) => self.sizes_in(e, place, found, name),
             None => Err(EvalFault::Rule(UNKNOWN_NAME)),
         }
@@ -210,55 +208,61 @@ impl<
     // The units that are given to a connector of this name and shape.
     fn given_unit(
         &self,
-        e: &mut Elaborator<'_>,
+        e: &mut Store<'_>,
         place: &Place<'_>,
         name: &[u8],
         shape: List<u32>,
         giver: &Giver<'_>,
     ) -> Result<Array, EvalFault>
-        requires files { e.old.files ≡ self.now.table.now }
-        requires leads { Leads (weight_of place.now) (F.pre self.now.link) (F.post self.now.link) }
+        requires files { e.old.files ≡ self.now.evaluator.table.now }
+        requires leads { Leads (weight_of place.now) (F.pre self.now.evaluator.link) (F.post self.now.evaluator.link) }
         requires few { length shape ≤ 2 }
         ensures same { e.new ≡ e.old }
         ensures answers { let g = the_given giver.now.steps giver.now.args.now giver.now.value.now in
-            Answers (spec.given_unit (declared self.now.table.now) (link_of self.now.table.now place.now) place.now.start.index (sizes_of_steps self.now.table.now place.now) place.now.steps.now (values.outs (spec.through place.now.steps.now name.now) (codes "unit") g) shape g) result }
+            Answers (spec.given_unit (declared self.now.evaluator.table.now) (link_of self.now.evaluator.table.now place.now) place.now.start.index (sizes_of_steps self.now.evaluator.table.now place.now) place.now.steps.now (values.outs (spec.through place.now.steps.now name.now) (codes "unit") g) shape g) result }
     {
-        let value = match self.written(e, place, giver) {
+        let value = match self.evaluator.written(e, place, giver) {
             Ok(value) => value,
             Err(fault) => return Err(fault),
         };
-        let steps = through(self.alloc, place.steps, name)?;
+        let steps = through(self.evaluator.alloc, place.steps, name)?;
         let rest = behind_next(steps.items(), giver.steps);
-        let outs = eaches(self.alloc, giver.args, rest, UNIT.as_bytes())?;
-        let mut sizes = match self.gathered(e, place, outs.items(), giver.steps) {
+        let outs = eaches(self.evaluator.alloc, giver.args, rest, UNIT.as_bytes())?;
+        let mut sizes = match self.evaluator.gathered(e, place, outs.items(), giver.steps) {
             Ok(sizes) => sizes,
             Err(fault) => return Err(fault),
         };
         push_own(&mut sizes, outs.items(), shape.items())?;
         let after = behind(place.steps, giver.steps);
-        let indices = indices_left(self.alloc, outs.items(), after)?;
-        let wanted = wanted(self.alloc, sizes.items(), &[])?;
-        units(self.alloc, wanted.items(), indices.items(), shape, &value)
+        let indices = indices_left(self.evaluator.alloc, outs.items(), after)?;
+        let wanted = wanted(self.evaluator.alloc, sizes.items(), &[])?;
+        units(
+            self.evaluator.alloc,
+            wanted.items(),
+            indices.items(),
+            shape,
+            &value,
+        )
     }
 
     // The units of a connector of this name and shape, with this binding.
     fn bound_unit(
         &self,
-        e: &mut Elaborator<'_>,
+        e: &mut Store<'_>,
         place: &Place<'_>,
         name: &[u8],
         shape: List<u32>,
         binding: &Binding<'_>,
     ) -> Result<Array, EvalFault>
-        requires files { e.old.files ≡ self.now.table.now }
-        requires leads { Leads (weight_of place.now) (F.pre self.now.link) (F.post self.now.link) }
+        requires files { e.old.files ≡ self.now.evaluator.table.now }
+        requires leads { Leads (weight_of place.now) (F.pre self.now.evaluator.link) (F.post self.now.evaluator.link) }
         requires few { length shape ≤ 2 }
         ensures same { e.new ≡ e.old }
-        ensures answers { Answers (spec.unit_by (declared self.now.table.now) (link_of self.now.table.now place.now) place.now.start.index (sizes_of_steps self.now.table.now place.now) place.now.steps.now name.now shape (Some (bound binding.now))) result }
+        ensures answers { Answers (spec.unit_by (declared self.now.evaluator.table.now) (link_of self.now.evaluator.table.now place.now) place.now.start.index (sizes_of_steps self.now.evaluator.table.now place.now) place.now.steps.now name.now shape (Some (bound binding.now))) result }
     {
         match binding {
             Binding::Text(giver) => self.given_unit(e, place, name, shape, giver),
-            Binding::Kind(_) => no_units(self.alloc, shape),
+            Binding::Kind(_) => no_units(self.evaluator.alloc, shape),
         }
     }
 
@@ -266,28 +270,28 @@ impl<
     #[tactic(auto, unfolding(cdl_worth::specs::Units::unit))]
     pub fn unit(
         &self,
-        e: &mut Elaborator<'_>,
+        e: &mut Store<'_>,
         place: &Place<'_>,
         name: &[u8],
     ) -> Result<Array, EvalFault>
-        requires files { e.old.files ≡ self.now.table.now }
-        requires leads { Leads (weight_of place.now) (F.pre self.now.link) (F.post self.now.link) }
+        requires files { e.old.files ≡ self.now.evaluator.table.now }
+        requires leads { Leads (weight_of place.now) (F.pre self.now.evaluator.link) (F.post self.now.evaluator.link) }
         ensures same { e.new ≡ e.old }
-        ensures answers { Answers (spec.unit (declared self.now.table.now) place.now.links place.now.start.index place.now.steps.now name.now) result }
+        ensures answers { Answers (spec.unit (declared self.now.evaluator.table.now) place.now.links place.now.start.index place.now.steps.now name.now) result }
     {
         let shape = match self.connector_sizes(e, place, name) {
             Ok(shape) => shape,
             Err(fault) => return Err(fault),
         };
-        let steps = through(self.alloc, place.steps, name)?;
+        let steps = through(self.evaluator.alloc, place.steps, name)?;
         match binding_of(
-            self.table,
+            self.evaluator.table,
             Found::Class(place.start),
             steps.items(),
             UNIT.as_bytes(),
         ) {
             Some(binding) => self.bound_unit(e, place, name, shape, &binding),
-            None => no_units(self.alloc, shape),
+            None => no_units(self.evaluator.alloc, shape),
         }
     }
 }

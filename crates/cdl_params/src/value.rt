@@ -7,16 +7,13 @@ ghost use Rattle.cdl_paths.specs.Members.{declaration, member as member_in};
 ghost use Rattle.cdl_scopes.specs.Classes.{declared};
 ghost use Rattle.cdl_worth.specs.Sizes.{declared_sizes as declared_in, gather};
 ghost use Rattle.cdl_worth.specs.Values as values;
-ghost use Rattle.cdl_params.specs.Kept.{classes};
-ghost use Rattle.cdl_params.specs.Leads.{Leads};
-ghost use Rattle.cdl_params.specs.Places.{link_of, sizes_of_steps, weight_of, worth_at};
+ghost use Rattle.cdl_eval.specs.Kept.{classes};
+ghost use Rattle.cdl_eval.specs.Leads.{Leads};
+ghost use Rattle.cdl_eval.specs.Places.{link_of, sizes_of_steps, weight_of, worth_at};
 
-use crate::eval::Evaluator;
-use crate::kept::Elaborator;
-use crate::place::{Place, behind, behind_next, front};
-use crate::sizes::wanted;
 use cdl_array::EvalFault;
 use cdl_classes::{ClassId, Found};
+use cdl_eval::{Evaluator, Place, Store, behind, behind_next, wanted};
 use cdl_paths::{
     Binding, Giver, Step, binding_of, eaches, hand_out, indices_left, member_of, site,
 };
@@ -35,35 +32,20 @@ fn declared_type(class: Found) -> Option<ValueType>
     }
 }
 
-impl<
-    't,
-    F: Fn(&mut Elaborator<'_>, u32, ClassId, &[Step], &[u8]) -> Result<Array, EvalFault>,
-> Evaluator<'t, F> {
-    /// The value of a giver's expression, at its own place.
-    #[tactic(auto, using(crate::proofs::Leading::leads_outer, crate::proofs::StepSizes::at_written))]
-    pub fn written(
-        &self,
-        e: &mut Elaborator<'_>,
-        place: &Place<'_>,
-        giver: &Giver<'_>,
-    ) -> Result<Array, EvalFault>
-        requires files { e.old.files ≡ self.now.table.now }
-        requires leads { Leads (weight_of place.now) (F.pre self.now.link) (F.post self.now.link) }
-        ensures same { e.new ≡ e.old }
-        ensures answers { Answers (values.written (declared self.now.table.now) (link_of self.now.table.now place.now) place.now.start.index (sizes_of_steps self.now.table.now place.now) place.now.steps.now (the_given giver.now.steps giver.now.args.now giver.now.value.now)) result }
-    {
-        let outer = Place {
-            links: place.links,
-            start: place.start,
-            steps: front(place.steps, giver.steps),
-        };
-        self.eval(e, &outer, &[], giver.value)
-    }
+/// What parameters and units are worth in these classes, by what links lead to.
+#[derive(Clone, Copy)]
+pub struct Valuation<'t, F> {
+    pub evaluator: Evaluator<'t, F>,
+}
 
+impl<'t, F: Fn(&mut Store<'_>, u32, ClassId, &[Step], &[u8]) -> Result<Array, EvalFault>> Valuation<
+    't,
+    F,
+> {
     /// What is handed out of a value, for a parameter of this name, type and declared sizes.
     pub fn handed(
         &self,
-        e: &mut Elaborator<'_>,
+        e: &mut Store<'_>,
         place: &Place<'_>,
         name: &[u8],
         value_type: ValueType,
@@ -71,23 +53,23 @@ impl<
         giver: &Giver<'_>,
         value: &Array,
     ) -> Result<Array, EvalFault>
-        requires files { e.old.files ≡ self.now.table.now }
-        requires leads { Leads (weight_of place.now) (F.pre self.now.link) (F.post self.now.link) }
+        requires files { e.old.files ≡ self.now.evaluator.table.now }
+        requires leads { Leads (weight_of place.now) (F.pre self.now.evaluator.link) (F.post self.now.evaluator.link) }
         ensures same { e.new ≡ e.old }
         ensures answers { let g = the_given giver.now.steps giver.now.args.now giver.now.value.now in let outs = values.outs place.now.steps.now name.now g in
-            Answers (then_to (gather outs (drop g.steps (sizes_of_steps self.now.table.now place.now))) (λ ns. handed_out value_type (map Some ns ++ own.now) (indices_in outs (drop g.steps place.now.steps.now)) value.now)) result }
+            Answers (then_to (gather outs (drop g.steps (sizes_of_steps self.now.evaluator.table.now place.now))) (λ ns. handed_out value_type (map Some ns ++ own.now) (indices_in outs (drop g.steps place.now.steps.now)) value.now)) result }
     {
         let after = behind(place.steps, giver.steps);
         let rest = behind_next(place.steps, giver.steps);
-        let outs = eaches(self.alloc, giver.args, rest, name)?;
-        let sizes = match self.gathered(e, place, outs.items(), giver.steps) {
+        let outs = eaches(self.evaluator.alloc, giver.args, rest, name)?;
+        let sizes = match self.evaluator.gathered(e, place, outs.items(), giver.steps) {
             Ok(sizes) => sizes,
             Err(fault) => return Err(fault),
         };
-        let indices = indices_left(self.alloc, outs.items(), after)?;
-        let wanted = wanted(self.alloc, sizes.items(), own)?;
+        let indices = indices_left(self.evaluator.alloc, outs.items(), after)?;
+        let wanted = wanted(self.evaluator.alloc, sizes.items(), own)?;
         hand_out(
-            self.alloc,
+            self.evaluator.alloc,
             value_type,
             wanted.items(),
             indices.items(),
@@ -98,17 +80,17 @@ impl<
     // The value of a parameter or constant of a declared class, which stands at the place.
     fn item_value(
         &self,
-        e: &mut Elaborator<'_>,
+        e: &mut Store<'_>,
         place: &Place<'_>,
         class: ClassId,
         name: &[u8],
     ) -> Result<Array, EvalFault>
-        requires files { e.old.files ≡ self.now.table.now }
-        requires leads { Leads (weight_of place.now) (F.pre self.now.link) (F.post self.now.link) }
+        requires files { e.old.files ≡ self.now.evaluator.table.now }
+        requires leads { Leads (weight_of place.now) (F.pre self.now.evaluator.link) (F.post self.now.evaluator.link) }
         ensures same { e.new ≡ e.old }
-        ensures answers { Answers (some_or (member_in (declared self.now.table.now) class.index name.now) UNKNOWN_NAME (λ m. values.item_value (declared self.now.table.now) (link_of self.now.table.now place.now) place.now.start.index (sizes_of_steps self.now.table.now place.now) place.now.steps.now name.now m (binding_in (declared self.now.table.now) (values.the_class place.now.start.index) 0 place.now.steps.now name.now))) result }
+        ensures answers { Answers (some_or (member_in (declared self.now.evaluator.table.now) class.index name.now) UNKNOWN_NAME (λ m. values.item_value (declared self.now.evaluator.table.now) (link_of self.now.evaluator.table.now place.now) place.now.start.index (sizes_of_steps self.now.evaluator.table.now place.now) place.now.steps.now name.now m (binding_in (declared self.now.evaluator.table.now) (values.the_class place.now.start.index) 0 place.now.steps.now name.now))) result }
     {
-        match member_of(self.table, class, name) {
+        match member_of(self.evaluator.table, class, name) {
             Some(member) => self.member_value(e, place, name, member.item, member.class),
             None => Err(EvalFault::Rule(UNKNOWN_NAME)),
         }
@@ -117,18 +99,23 @@ impl<
     // The value of a parameter or constant that is this item, whose class name means this.
     fn member_value(
         &self,
-        e: &mut Elaborator<'_>,
+        e: &mut Store<'_>,
         place: &Place<'_>,
         name: &[u8],
         item: &Item,
         class: Found,
     ) -> Result<Array, EvalFault>
-        requires files { e.old.files ≡ self.now.table.now }
-        requires leads { Leads (weight_of place.now) (F.pre self.now.link) (F.post self.now.link) }
+        requires files { e.old.files ≡ self.now.evaluator.table.now }
+        requires leads { Leads (weight_of place.now) (F.pre self.now.evaluator.link) (F.post self.now.evaluator.link) }
         ensures same { e.new ≡ e.old }
-        ensures answers { Answers (values.item_value (declared self.now.table.now) (link_of self.now.table.now place.now) place.now.start.index (sizes_of_steps self.now.table.now place.now) place.now.steps.now name.now (declaration item.now class) (binding_in (declared self.now.table.now) (values.the_class place.now.start.index) 0 place.now.steps.now name.now)) result }
+        ensures answers { Answers (values.item_value (declared self.now.evaluator.table.now) (link_of self.now.evaluator.table.now place.now) place.now.start.index (sizes_of_steps self.now.evaluator.table.now place.now) place.now.steps.now name.now (declaration item.now class) (binding_in (declared self.now.evaluator.table.now) (values.the_class place.now.start.index) 0 place.now.steps.now name.now)) result }
     {
-        match binding_of(self.table, Found::Class(place.start), place.steps, name) {
+        match binding_of(
+            self.evaluator.table,
+            Found::Class(place.start),
+            place.steps,
+            name,
+        ) {
             Some(binding) => self.bound_value(e, place, name, item, class, &binding),
             None => Err(EvalFault::Rule(PARAMETER_WITHOUT_VALUE)),
         }
@@ -137,17 +124,17 @@ impl<
     // The value of a parameter or constant with this binding.
     fn bound_value(
         &self,
-        e: &mut Elaborator<'_>,
+        e: &mut Store<'_>,
         place: &Place<'_>,
         name: &[u8],
         item: &Item,
         class: Found,
         binding: &Binding<'_>,
     ) -> Result<Array, EvalFault>
-        requires files { e.old.files ≡ self.now.table.now }
-        requires leads { Leads (weight_of place.now) (F.pre self.now.link) (F.post self.now.link) }
+        requires files { e.old.files ≡ self.now.evaluator.table.now }
+        requires leads { Leads (weight_of place.now) (F.pre self.now.evaluator.link) (F.post self.now.evaluator.link) }
         ensures same { e.new ≡ e.old }
-        ensures answers { Answers (values.item_value (declared self.now.table.now) (link_of self.now.table.now place.now) place.now.start.index (sizes_of_steps self.now.table.now place.now) place.now.steps.now name.now (declaration item.now class) (Some (bound binding.now))) result }
+        ensures answers { Answers (values.item_value (declared self.now.evaluator.table.now) (link_of self.now.evaluator.table.now place.now) place.now.start.index (sizes_of_steps self.now.evaluator.table.now place.now) place.now.steps.now name.now (declaration item.now class) (Some (bound binding.now))) result }
     {
         match binding {
             Binding::Text(giver) => match declared_type(class) {
@@ -163,23 +150,23 @@ impl<
     // The value that is given to a parameter with these dimensions.
     fn given_value(
         &self,
-        e: &mut Elaborator<'_>,
+        e: &mut Store<'_>,
         place: &Place<'_>,
         name: &[u8],
         value_type: ValueType,
         dims: &[Dim],
         giver: &Giver<'_>,
     ) -> Result<Array, EvalFault>
-        requires files { e.old.files ≡ self.now.table.now }
-        requires leads { Leads (weight_of place.now) (F.pre self.now.link) (F.post self.now.link) }
+        requires files { e.old.files ≡ self.now.evaluator.table.now }
+        requires leads { Leads (weight_of place.now) (F.pre self.now.evaluator.link) (F.post self.now.evaluator.link) }
         ensures same { e.new ≡ e.old }
-        ensures answers { Answers (values.given_value (declared self.now.table.now) (link_of self.now.table.now place.now) place.now.start.index (sizes_of_steps self.now.table.now place.now) place.now.steps.now name.now value_type (declared_in (worth_at self.now.table.now place.now []) dims.now) (the_given giver.now.steps giver.now.args.now giver.now.value.now)) result }
+        ensures answers { Answers (values.given_value (declared self.now.evaluator.table.now) (link_of self.now.evaluator.table.now place.now) place.now.start.index (sizes_of_steps self.now.evaluator.table.now place.now) place.now.steps.now name.now value_type (declared_in (worth_at self.now.evaluator.table.now place.now []) dims.now) (the_given giver.now.steps giver.now.args.now giver.now.value.now)) result }
     {
-        let value = match self.written(e, place, giver) {
+        let value = match self.evaluator.written(e, place, giver) {
             Ok(value) => value,
             Err(fault) => return Err(fault),
         };
-        match self.declared_sizes(e, place, dims) {
+        match self.evaluator.declared_sizes(e, place, dims) {
             Ok(own) => self.handed(e, place, name, value_type, own.items(), giver, &value),
             Err(fault) => Err(fault),
         }
@@ -188,15 +175,15 @@ impl<
     // The value of the parameter or constant of this name of what stands at the place.
     fn value_in(
         &self,
-        e: &mut Elaborator<'_>,
+        e: &mut Store<'_>,
         place: &Place<'_>,
         found: Found,
         name: &[u8],
     ) -> Result<Array, EvalFault>
-        requires files { e.old.files ≡ self.now.table.now }
-        requires leads { Leads (weight_of place.now) (F.pre self.now.link) (F.post self.now.link) }
+        requires files { e.old.files ≡ self.now.evaluator.table.now }
+        requires leads { Leads (weight_of place.now) (F.pre self.now.evaluator.link) (F.post self.now.evaluator.link) }
         ensures same { e.new ≡ e.old }
-        ensures answers { Answers (values.value_in (declared self.now.table.now) (link_of self.now.table.now place.now) place.now.start.index (sizes_of_steps self.now.table.now place.now) place.now.steps.now name.now (Some found)) result }
+        ensures answers { Answers (values.value_in (declared self.now.evaluator.table.now) (link_of self.now.evaluator.table.now place.now) place.now.start.index (sizes_of_steps self.now.evaluator.table.now place.now) place.now.steps.now name.now (Some found)) result }
     {
         match found {
             Found::Class(class) => self.item_value(e, place, class, name),
@@ -209,16 +196,16 @@ impl<
     #[tactic(auto, unfolding(cdl_worth::specs::Values::value))]
     pub fn value(
         &self,
-        e: &mut Elaborator<'_>,
+        e: &mut Store<'_>,
         place: &Place<'_>,
         name: &[u8],
     ) -> Result<Array, EvalFault>
-        requires files { e.old.files ≡ self.now.table.now }
-        requires leads { Leads (weight_of place.now) (F.pre self.now.link) (F.post self.now.link) }
+        requires files { e.old.files ≡ self.now.evaluator.table.now }
+        requires leads { Leads (weight_of place.now) (F.pre self.now.evaluator.link) (F.post self.now.evaluator.link) }
         ensures same { e.new ≡ e.old }
-        ensures answers { Answers (values.value (declared self.now.table.now) place.now.links place.now.start.index place.now.steps.now name.now) result }
+        ensures answers { Answers (values.value (declared self.now.evaluator.table.now) place.now.links place.now.start.index place.now.steps.now name.now) result }
     {
-        match site(self.table, Found::Class(place.start), place.steps) {
+        match site(self.evaluator.table, Found::Class(place.start), place.steps) {
             Some(found) => self.value_in(e, place, found, name),
             None => Err(EvalFault::Rule(UNKNOWN_NAME)),
         }
@@ -228,7 +215,7 @@ impl<
 /// The value of the parameter or constant of this name at a place, with this many links.
 #[tactic(auto, using(crate::proofs::Telling::same_value))]
 pub fn linked(
-    e: &mut Elaborator<'_>,
+    e: &mut Store<'_>,
     links: u32,
     start: ClassId,
     steps: &[Step],
@@ -240,17 +227,19 @@ pub fn linked(
     if let Some(value) = e.known(links, start, steps, name)? {
         return Ok(value);
     }
-    let evaluator = Evaluator {
-        alloc: e.alloc(),
-        table: e.table(),
-        link: linked,
+    let valuation = Valuation {
+        evaluator: Evaluator {
+            alloc: e.alloc(),
+            table: e.table(),
+            link: linked,
+        },
     };
     let place = Place {
         links,
         start,
         steps,
     };
-    let value = match evaluator.value(e, &place, name) {
+    let value = match valuation.value(e, &place, name) {
         Ok(value) => value,
         Err(fault) => return Err(fault),
     };

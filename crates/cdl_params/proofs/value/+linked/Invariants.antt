@@ -1,5 +1,5 @@
 use Rattle.std.proofs.Common.{length}
-use Rattle.cdl_params.specs.Places.{weight}
+use Rattle.cdl_eval.specs.Places.{weight}
 use Rattle.cdl_params.proofs.value.+linked.Given as goal
 
 abbrev pub decreases-linked : goal.decreases-linked

@@ -1,0 +1,6 @@
+pub mod Keeping
+pub mod Leading
+pub mod Linking
+pub mod Nodes
+pub mod Rows
+pub mod StepSizes

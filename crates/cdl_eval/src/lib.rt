@@ -1,0 +1,13 @@
+//! The values of expressions at every path, by what the names in them lead to.
+#![tactic(auto)]
+
+mod eval;
+mod kept;
+mod place;
+mod sizes;
+
+pub use cdl_array::EvalFault;
+pub use eval::Evaluator;
+pub use kept::{Entry, Store};
+pub use place::{Place, behind, behind_next, copy_steps};
+pub use sizes::{push_all, wanted};
