@@ -1,5 +1,5 @@
 -- What leads at a place leads at smaller ones too.
-use Rattle.std.proofs.Common.{ℕ, ◌+◌, ◌-◌, ◌*◌, ◌<◌, ◌≤◌, ◌≡◌, List, Result, length, take, min, arith, ap, ◌∙◌, length-take}
+use Rattle.std.proofs.Common.{ℕ, ◌-◌, ◌<◌, ◌≤◌, ◌≡◌, List, Result, length, take, min, arith, ap, ◌∙◌, length-take}
 use denote.Ref.{Bor, MutBor}
 use Rattle.cdl_source.specs.declared.limits.TheConstants.{MOST_LINKS}
 use Rattle.cdl_values.specs.declared.value.Array.{Array}

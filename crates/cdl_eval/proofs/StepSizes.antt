@@ -1,5 +1,5 @@
 -- The sizes of the steps of a place begin with those of each shorter one.
-use Rattle.std.proofs.Common.{◌≡◌, ℕ, zero, suc, ◌+◌, ◌-◌, ◌<◌, Bool, cond, ◌≤◌, List, [], ◌∷◌, ◌++◌, length, take, drop, refl, sym, ap, ◌∙◌, subst, arith, append_assoc, Option, Some, None, get_or, Result, Ok, Err, inl, inr, map, option_map}
+use Rattle.std.proofs.Common.{◌≡◌, ℕ, zero, suc, ◌+◌, ◌-◌, ◌<◌, Bool, cond, ◌≤◌, List, [], ◌∷◌, ◌++◌, length, take, drop, refl, sym, ap, ◌∙◌, subst, arith, append_assoc, Option, Some, None, get_or, Result, Ok, Err, inl, inr, option_map}
 use Rattle.std.proofs.lemmas.List.{append-nil, take_all, length-take-le}
 use Rattle.std.proofs.lemmas.Bool.{cases_lt}
 use Rattle.cdl_source.specs.declared.limits.TheConstants.{MOST_LINKS}
@@ -57,7 +57,7 @@ all_long ds r p = long ds r [] [] p
 sizes_long : (ds : List Declared) (r : ℕ) (p : Steps) (n : ℕ) → n ≤ length p → length (sizes ds r (take n p)) ≡ n
 sizes_long ds r p n h = all_long ds r (take n p) ∙ length-take-le n p h
 
-sizes_take : (ds : List Declared) (r : ℕ) (p : Steps) (n : ℕ) → sizes ds r (take n p) ≡ take n (sizes ds r p)
+pub sizes_take : (ds : List Declared) (r : ℕ) (p : Steps) (n : ℕ) → sizes ds r (take n p) ≡ take n (sizes ds r p)
 sizes_take ds r p n = elim (cases_lt (length p) n) [
   | inl lt ↦ (let short : length p ≤ n = omega arith in let same : length (sizes ds r p) ≡ length p = all_long ds r p in let few : length (sizes ds r p) ≤ n = omega (arith, same, short) in rw (take_all n p short, take_all n (sizes ds r p) few) refl)
   | inr le ↦ sym (ap (λ (ss : StepSizes). take n ss) (cut ds r p n) ∙ take_front (sizes ds r (take n p)) _ n (sizes_long ds r p n le))

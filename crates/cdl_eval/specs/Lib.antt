@@ -1,3 +1,4 @@
+pub mod Families
 pub mod Places
 pub mod Kept
 pub mod Leads

@@ -1,5 +1,5 @@
 // Expressions. What a link leads to comes from a function that is passed in, so each of these is proved by itself.
-ghost use Rattle.std.specs.Prelude.{◌≡◌, ◌≤◌, ◌<◌, ◌-◌, ℕ, List, Some, Ok, length, map, option_map};
+ghost use Rattle.std.specs.Prelude.{◌≡◌, ◌≤◌, ◌<◌, ◌-◌, ℕ, List, Some, Ok, length, map, option_map, take};
 ghost use Rattle.cdl_array.specs.Outcomes.{Answers, then_to};
 ghost use Rattle.cdl_array.specs.Functions.{function_named};
 ghost use Rattle.cdl_array.specs.Scalars.{scalar as scalar_of};
@@ -12,11 +12,13 @@ ghost use Rattle.cdl_paths.specs.References.{refers};
 ghost use Rattle.cdl_scopes.specs.Classes.{declared, parts_of};
 ghost use Rattle.cdl_worth.specs.Expressions as spec;
 ghost use Rattle.cdl_worth.specs.Values as values;
+ghost use Rattle.cdl_eval.specs.Families.{Binds};
 ghost use Rattle.cdl_eval.specs.Leads.{Leads};
 ghost use Rattle.cdl_eval.specs.Places.{link_of, names_of, sizes_of_steps, weight, weight_of, worth_at};
 
 use crate::kept::Store;
-use crate::place::{Place, front};
+use crate::place::{Place, are_indexed, behind, family, front};
+use crate::shared::Shared;
 use cdl_array::{
     EvalFault, Function, binary, call, condition, decided, literal, scalar, subscript, unary,
 };
@@ -382,9 +384,9 @@ impl<'t, F: Fn(&mut Store<'_>, u32, ClassId, &[Step], &[u8]) -> Result<Array, Ev
         }
     }
 
-    /// The value of a giver's expression, at its own place.
+    // The value of a giver's expression, at its own place.
     #[tactic(auto, using(crate::proofs::Leading::leads_outer, crate::proofs::StepSizes::at_written))]
-    pub fn written(
+    fn written(
         &self,
         e: &mut Store<'_>,
         place: &Place<'_>,
@@ -401,5 +403,74 @@ impl<'t, F: Fn(&mut Store<'_>, u32, ClassId, &[Step], &[u8]) -> Result<Array, Ev
             steps: front(place.steps, giver.steps),
         };
         self.eval(e, &outer, &[], giver.value)
+    }
+    /// The value of a giver's expression, at its own place.
+    pub fn written_anew(
+        &self,
+        e: &mut Store<'_>,
+        place: &Place<'_>,
+        giver: &Giver<'_>,
+    ) -> Result<Shared, EvalFault>
+        requires files { e.old.files ≡ self.now.table.now }
+        requires leads { Leads (weight_of place.now) (F.pre self.now.link) (F.post self.now.link) }
+        ensures same { e.new ≡ e.old }
+        ensures answers { Answers (values.written (declared self.now.table.now) (link_of self.now.table.now place.now) place.now.start.index (sizes_of_steps self.now.table.now place.now) place.now.steps.now (the_given giver.now.steps giver.now.args.now giver.now.value.now)) result }
+    {
+        match self.written(e, place, giver) {
+            Ok(value) => Ok(Shared::new(self.alloc, value)?),
+            Err(fault) => Err(fault),
+        }
+    }
+
+    // The value of the expression that binds a parameter of so many instances, found once.
+    #[tactic(auto, using(crate::proofs::Sharing::shared_known, crate::proofs::Sharing::shared_keeps))]
+    fn written_once(
+        &self,
+        e: &mut Store<'_>,
+        place: &Place<'_>,
+        steps: &[Step],
+        name: &[u8],
+        giver: &Giver<'_>,
+    ) -> Result<Shared, EvalFault>
+        requires files { e.old.files ≡ self.now.table.now }
+        requires leads { Leads (weight_of place.now) (F.pre self.now.link) (F.post self.now.link) }
+        requires binds { Binds self.now.table.now place.now.start.index steps.now name.now (the_given giver.now.steps giver.now.args.now giver.now.value.now) }
+        requires begins { take giver.now.steps steps.now ≡ take giver.now.steps place.now.steps.now }
+        ensures same { e.new ≡ e.old }
+        ensures answers { Answers (values.written (declared self.now.table.now) (link_of self.now.table.now place.now) place.now.start.index (sizes_of_steps self.now.table.now place.now) place.now.steps.now (the_given giver.now.steps giver.now.args.now giver.now.value.now)) result }
+    {
+        let family = family(self.alloc, steps, giver.steps)?;
+        if let Some(value) = e.known_given(place.links, place.start, family.items(), name)? {
+            return Ok(value);
+        }
+        let value = match self.written_anew(e, place, giver) {
+            Ok(value) => value,
+            Err(fault) => return Err(fault),
+        };
+        e.keep_given(place.links, place.start, family.items(), name, &value)?;
+        Ok(value)
+    }
+
+    /// The value of the expression that binds the parameter of this name behind these steps, at its giver's own place. Where it is
+    /// handed out over components, it is found once for all of them.
+    pub fn given(
+        &self,
+        e: &mut Store<'_>,
+        place: &Place<'_>,
+        steps: &[Step],
+        name: &[u8],
+        giver: &Giver<'_>,
+    ) -> Result<Shared, EvalFault>
+        requires files { e.old.files ≡ self.now.table.now }
+        requires leads { Leads (weight_of place.now) (F.pre self.now.link) (F.post self.now.link) }
+        requires binds { Binds self.now.table.now place.now.start.index steps.now name.now (the_given giver.now.steps giver.now.args.now giver.now.value.now) }
+        requires begins { take giver.now.steps steps.now ≡ take giver.now.steps place.now.steps.now }
+        ensures same { e.new ≡ e.old }
+        ensures answers { Answers (values.written (declared self.now.table.now) (link_of self.now.table.now place.now) place.now.start.index (sizes_of_steps self.now.table.now place.now) place.now.steps.now (the_given giver.now.steps giver.now.args.now giver.now.value.now)) result }
+    {
+        if are_indexed(behind(steps, giver.steps)) {
+            return self.written_once(e, place, steps, name, giver);
+        }
+        self.written_anew(e, place, giver)
     }
 }

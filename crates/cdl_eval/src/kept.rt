@@ -2,9 +2,10 @@
 ghost use Rattle.std.specs.Prelude.{◌≡◌, ◌≤◌, All, List, IfOk, IfSome, IsTrue, Ok};
 ghost use Rattle.cdl_scopes.specs.Classes.{Declared};
 ghost use Rattle.cdl_worth.specs.Values.{value as value_of};
-ghost use Rattle.cdl_eval.specs.Kept.{IsKept, classes};
+ghost use Rattle.cdl_eval.specs.Kept.{IsKept, classes, given as given_of, kept as kept_of};
 
 use crate::place::{copy_steps, same_steps};
+use crate::shared::Shared;
 use cdl_classes::{ClassId, ClassTable};
 use cdl_paths::Step;
 use cdl_source::{List, OutOfMemory, Text};
@@ -14,45 +15,55 @@ use std::alloc::Global;
 use std::collections::BTreeMap;
 use std::marker::Model;
 
-/// The value of a parameter at a place, and the links with which it was found.
-#[derive(Debug, Drop)]
+/// The value of a parameter at a place, or that of the expression that is given to it, and the links with which it was found.
+#[derive(Drop)]
 pub struct Entry {
+    pub is_given: bool,
     pub links: u32,
     pub start: ClassId,
     pub steps: List<Step>,
     pub name: Text,
-    pub value: Array,
+    pub value: Shared,
 }
 
 impl Entry {
-    // Whether it is the value of this parameter, found with so many links or fewer.
-    fn serves(&self, links: u32, start: ClassId, steps: &[Step], name: &[u8]) -> bool
-        ensures { IsTrue result → (self.now.links ≤ links) × (self.now.start.index ≡ start.index) × (self.now.steps ≡ steps.now) × (self.now.name ≡ name.now) }
+    // Whether it is what was found of this parameter, with so many links or fewer.
+    fn serves(
+        &self,
+        is_given: bool,
+        links: u32,
+        start: ClassId,
+        steps: &[Step],
+        name: &[u8],
+    ) -> bool
+        ensures { IsTrue result → (self.now.is_given ≡ is_given) × (self.now.links ≤ links) × (self.now.start.index ≡ start.index) × (self.now.steps ≡ steps.now) × (self.now.name ≡ name.now) }
     {
-        self.links <= links
+        self.is_given == is_given
+            && self.links <= links
             && self.start.index == start.index
             && self.name.bytes() == name
             && same_steps(self.steps.items(), steps)
     }
 }
 
-// The value of a parameter that was kept under this number.
+// What was kept of a parameter under this number.
 fn serving<'e>(
     entries: &'e [Entry],
     number: usize,
+    is_given: bool,
     links: u32,
     start: ClassId,
     steps: &[Step],
     name: &[u8],
-) -> Option<&'e Array>
-    ensures { (ds : List Declared) → All (IsKept ds) entries.now → IfSome result (λ v. value_of ds links start.index steps.now name.now ≡ Ok v.now) }
+) -> Option<&'e Shared>
+    ensures { (ds : List Declared) → All (IsKept ds) entries.now → IfSome result (λ v. kept_of is_given ds links start.index steps.now name.now ≡ Ok v.now) }
 {
     more_links_change_nothing();
     if number >= entries.len() {
         return None;
     }
     let entry = &entries[number];
-    if entry.serves(links, start, steps, name) {
+    if entry.serves(is_given, links, start, steps, name) {
         Some(&entry.value)
     } else {
         None
@@ -78,11 +89,13 @@ fn push_bytes(text: &mut Vec<u8>, bytes: &[u8]) -> Result<(), OutOfMemory> {
 // A text of a place and a name. Entries are looked up by it, and compared with what is asked for.
 fn text_of(
     alloc: Global,
+    is_given: bool,
     start: ClassId,
     steps: &[Step],
     name: &[u8],
 ) -> Result<Vec<u8>, OutOfMemory> {
     let mut text = Vec::new(alloc);
+    text.push(is_given as u8)?;
     push_number(&mut text, start.index)?;
     for step in steps {
         push_bytes(&mut text, step.name.bytes())?;
@@ -158,6 +171,56 @@ impl<'a> Store<'a> {
         self.alloc
     }
 
+    // What was kept of a parameter, if it was found with so many links or fewer.
+    fn find(
+        &self,
+        is_given: bool,
+        links: u32,
+        start: ClassId,
+        steps: &[Step],
+        name: &[u8],
+    ) -> Result<Option<Shared>, OutOfMemory>
+        ensures { IfOk result (λ found. IfSome found (λ v. kept_of is_given (classes self.now) links start.index steps.now name.now ≡ Ok v)) }
+    {
+        let text = text_of(self.alloc, is_given, start, steps, name)?;
+        let Some(number) = self.numbers.get(text.as_slice()) else {
+            return Ok(None);
+        };
+        let entries = self.kept.as_slice();
+        match serving(entries, *number, is_given, links, start, steps, name) {
+            Some(value) => Ok(Some(value.share()?)),
+            None => Ok(None),
+        }
+    }
+
+    // Keeps what was found of a parameter with so many links.
+    fn insert(
+        &mut self,
+        is_given: bool,
+        links: u32,
+        start: ClassId,
+        steps: &[Step],
+        name: &[u8],
+        value: Shared,
+    ) -> Result<(), OutOfMemory>
+        requires { kept_of is_given (classes self.old) links start.index steps.now name.now ≡ Ok value }
+        ensures { self.new ≡ self.old }
+    {
+        let text = text_of(self.alloc, is_given, start, steps, name)?;
+        let entry = Entry {
+            is_given,
+            links,
+            start,
+            steps: copy_steps(self.alloc, steps)?,
+            name: Text::from_bytes(self.alloc, name)?,
+            value,
+        };
+        let number = self.kept.len();
+        self.kept.push(entry)?;
+        self.numbers.insert(text, number)?;
+        Ok(())
+    }
+
     /// The value of a parameter, if it was found with so many links or fewer.
     pub fn known(
         &self,
@@ -168,12 +231,8 @@ impl<'a> Store<'a> {
     ) -> Result<Option<Array>, OutOfMemory>
         ensures { IfOk result (λ found. IfSome found (λ v. value_of (classes self.now) links start.index steps.now name.now ≡ Ok v)) }
     {
-        let text = text_of(self.alloc, start, steps, name)?;
-        let Some(number) = self.numbers.get(text.as_slice()) else {
-            return Ok(None);
-        };
-        match serving(self.kept.as_slice(), *number, links, start, steps, name) {
-            Some(value) => Ok(Some(value.copy(self.alloc)?)),
+        match self.find(false, links, start, steps, name)? {
+            Some(value) => Ok(Some(value.array().copy(self.alloc)?)),
             None => Ok(None),
         }
     }
@@ -190,17 +249,35 @@ impl<'a> Store<'a> {
         requires { value_of (classes self.old) links start.index steps.now name.now ≡ Ok value.now }
         ensures { self.new ≡ self.old }
     {
-        let text = text_of(self.alloc, start, steps, name)?;
-        let entry = Entry {
-            links,
-            start,
-            steps: copy_steps(self.alloc, steps)?,
-            name: Text::from_bytes(self.alloc, name)?,
-            value: value.copy(self.alloc)?,
-        };
-        let number = self.kept.len();
-        self.kept.push(entry)?;
-        self.numbers.insert(text, number)?;
-        Ok(())
+        let value = Shared::new(self.alloc, value.copy(self.alloc)?)?;
+        self.insert(false, links, start, steps, name, value)
+    }
+
+    /// The value of the expression that is given to a parameter, if it was found with so many links or fewer.
+    pub fn known_given(
+        &self,
+        links: u32,
+        start: ClassId,
+        steps: &[Step],
+        name: &[u8],
+    ) -> Result<Option<Shared>, OutOfMemory>
+        ensures { IfOk result (λ found. IfSome found (λ v. given_of (classes self.now) links start.index steps.now name.now ≡ Ok v)) }
+    {
+        self.find(true, links, start, steps, name)
+    }
+
+    /// Keeps the value of the expression that is given to a parameter, which was found with so many links.
+    pub fn keep_given(
+        &mut self,
+        links: u32,
+        start: ClassId,
+        steps: &[Step],
+        name: &[u8],
+        value: &Shared,
+    ) -> Result<(), OutOfMemory>
+        requires { given_of (classes self.old) links start.index steps.now name.now ≡ Ok value.now }
+        ensures { self.new ≡ self.old }
+    {
+        self.insert(true, links, start, steps, name, value.share()?)
     }
 }

@@ -1,5 +1,6 @@
 // Places, where names have values.
 ghost use Rattle.std.specs.Prelude.{◌≡◌, ◌+◌, IfOk, IsTrue, take, drop};
+ghost use Rattle.cdl_eval.specs.Families as spec;
 
 use cdl_classes::ClassId;
 use cdl_paths::Step;
@@ -76,6 +77,38 @@ pub fn copy_steps(alloc: Global, steps: &[Step]) -> Result<List<Step>, OutOfMemo
         copy.push(copy_step(alloc, step)?)?;
     }
     Ok(copy)
+}
+
+// The step without its indices.
+fn cleared(alloc: Global, step: &Step) -> Result<Step, OutOfMemory>
+    ensures { IfOk result (λ cleared. cleared ≡ spec.cleared step.now) }
+{
+    Ok(Step {
+        name: step.name.copy(alloc)?,
+        indices: List::new(alloc),
+    })
+}
+
+/// The steps, of which those behind so many have lost their indices.
+pub fn family(alloc: Global, steps: &[Step], count: usize) -> Result<List<Step>, OutOfMemory>
+    ensures { IfOk result (λ all. all ≡ spec.family count steps.now) }
+{
+    let mut all = copy_steps(alloc, front(steps, count))?;
+    let rest = behind(steps, count);
+    for i in 0..rest.len() {
+        all.push(cleared(alloc, &rest[i])?)?;
+    }
+    Ok(all)
+}
+
+/// Whether one of these steps has indices.
+pub fn are_indexed(steps: &[Step]) -> bool {
+    for step in steps {
+        if !step.indices.items().is_empty() {
+            return true;
+        }
+    }
+    false
 }
 
 // Whether two steps are the same.

@@ -3,13 +3,14 @@ ghost use Rattle.std.specs.Prelude.{◌≡◌, [], ◌∷◌, IfOk, Option, Some
 ghost use Rattle.cdl_array.specs.Outcomes.{Answers, some_or, then_to};
 ghost use Rattle.cdl_array.specs.Sizes.{size_of as size_in};
 ghost use Rattle.cdl_kinds.specs.Parameters.{parameter_row, parameters as parameters_of};
-ghost use Rattle.cdl_paths.specs.Bindings.{bound, row_named as row_in, the_given};
+ghost use Rattle.cdl_paths.specs.Bindings.{binding_of as binding_in, bound, row_named as row_in, the_given};
 ghost use Rattle.cdl_decimal.specs.Near.{in_range};
 ghost use Rattle.cdl_array.specs.Scalars.{scalar as scalar_in};
 ghost use Rattle.cdl_values.specs.declared.value.Value.TheVariants as value_is;
 ghost use Rattle.cdl_scopes.specs.Classes.{declared};
 ghost use Rattle.cdl_source.specs.declared.rules.TheConstants.{PARAMETER_WITHOUT_VALUE as WITHOUT_VALUE};
 ghost use Rattle.cdl_worth.specs.Values as values;
+ghost use Rattle.cdl_eval.specs.Families.{Binds};
 ghost use Rattle.cdl_eval.specs.Leads.{Leads};
 ghost use Rattle.cdl_eval.specs.Places.{link_of, sizes_of_steps, weight_of};
 
@@ -147,17 +148,19 @@ impl<'t, F: Fn(&mut Store<'_>, u32, ClassId, &[Step], &[u8]) -> Result<Array, Ev
     ) -> Result<Array, EvalFault>
         requires files { e.old.files ≡ self.now.evaluator.table.now }
         requires leads { Leads (weight_of place.now) (F.pre self.now.evaluator.link) (F.post self.now.evaluator.link) }
+        requires binds { Binds self.now.evaluator.table.now place.now.start.index place.now.steps.now row.now.name.now (the_given giver.now.steps giver.now.args.now giver.now.value.now) }
         ensures same { e.new ≡ e.old }
         ensures answers { Answers (values.given_value (declared self.now.evaluator.table.now) (link_of self.now.evaluator.table.now place.now) place.now.start.index (sizes_of_steps self.now.evaluator.table.now place.now) place.now.steps.now row.now.name.now row.now.value_type (values.row_sizes (values.nin_of (declared self.now.evaluator.table.now) (link_of self.now.evaluator.table.now place.now) place.now.start.index (sizes_of_steps self.now.evaluator.table.now place.now) place.now.steps.now kind) row.now.per_nin) (the_given giver.now.steps giver.now.args.now giver.now.value.now)) result }
     {
-        let value = match self.evaluator.written(e, place, giver) {
+        let name = row.name.as_bytes();
+        let value = match self.evaluator.given(e, place, place.steps, name, giver) {
             Ok(value) => value,
             Err(fault) => return Err(fault),
         };
         match self.row_sizes(e, place, kind, row.per_nin) {
             Ok(own) => {
-                let name = row.name.as_bytes();
-                self.handed(e, place, name, row.value_type, own.items(), giver, &value)
+                let value = value.array();
+                self.handed(e, place, name, row.value_type, own.items(), giver, value)
             }
             Err(fault) => Err(fault),
         }
@@ -173,17 +176,19 @@ impl<'t, F: Fn(&mut Store<'_>, u32, ClassId, &[Step], &[u8]) -> Result<Array, Ev
     ) -> Result<Array, EvalFault>
         requires files { e.old.files ≡ self.now.evaluator.table.now }
         requires leads { Leads (weight_of place.now) (F.pre self.now.evaluator.link) (F.post self.now.evaluator.link) }
+        requires binds { Binds self.now.evaluator.table.now place.now.start.index place.now.steps.now row.now.name.now (the_given giver.now.steps giver.now.args.now giver.now.value.now) }
         ensures same { e.new ≡ e.old }
         ensures answers { Answers (values.given_value (declared self.now.evaluator.table.now) (link_of self.now.evaluator.table.now place.now) place.now.start.index (sizes_of_steps self.now.evaluator.table.now place.now) place.now.steps.now row.now.name.now row.now.value_type (values.row_sizes (Err WITHOUT_VALUE) row.now.per_nin) (the_given giver.now.steps giver.now.args.now giver.now.value.now)) result }
     {
-        let value = match self.evaluator.written(e, place, giver) {
+        let name = row.name.as_bytes();
+        let value = match self.evaluator.given(e, place, place.steps, name, giver) {
             Ok(value) => value,
             Err(fault) => return Err(fault),
         };
         match plain_sizes(self.evaluator.alloc, row.per_nin) {
             Ok(own) => {
-                let name = row.name.as_bytes();
-                self.handed(e, place, name, row.value_type, own.items(), giver, &value)
+                let value = value.array();
+                self.handed(e, place, name, row.value_type, own.items(), giver, value)
             }
             Err(fault) => Err(fault),
         }
@@ -199,6 +204,7 @@ impl<'t, F: Fn(&mut Store<'_>, u32, ClassId, &[Step], &[u8]) -> Result<Array, Ev
     ) -> Result<Array, EvalFault>
         requires files { e.old.files ≡ self.now.evaluator.table.now }
         requires leads { Leads (weight_of place.now) (F.pre self.now.evaluator.link) (F.post self.now.evaluator.link) }
+        requires binds { binding_in (declared self.now.evaluator.table.now) (values.the_class place.now.start.index) 0 place.now.steps.now row.now.name.now ≡ Some (bound binding.now) }
         ensures same { e.new ≡ e.old }
         ensures answers { Answers (values.row_bound (declared self.now.evaluator.table.now) (link_of self.now.evaluator.table.now place.now) place.now.start.index (sizes_of_steps self.now.evaluator.table.now place.now) place.now.steps.now (λ j. Err WITHOUT_VALUE) (Err WITHOUT_VALUE) (parameter_row row.now) (Some (bound binding.now))) result }
     {
@@ -318,6 +324,7 @@ impl<'t, F: Fn(&mut Store<'_>, u32, ClassId, &[Step], &[u8]) -> Result<Array, Ev
     ) -> Result<Array, EvalFault>
         requires files { e.old.files ≡ self.now.evaluator.table.now }
         requires leads { Leads (weight_of place.now) (F.pre self.now.evaluator.link) (F.post self.now.evaluator.link) }
+        requires binds { binding_in (declared self.now.evaluator.table.now) (values.the_class place.now.start.index) 0 place.now.steps.now row.now.name.now ≡ Some (bound binding.now) }
         ensures same { e.new ≡ e.old }
         ensures answers { Answers (values.row_bound (declared self.now.evaluator.table.now) (link_of self.now.evaluator.table.now place.now) place.now.start.index (sizes_of_steps self.now.evaluator.table.now place.now) place.now.steps.now (λ j. values.plain_value (declared self.now.evaluator.table.now) (link_of self.now.evaluator.table.now place.now) place.now.start.index (sizes_of_steps self.now.evaluator.table.now place.now) place.now.steps.now (slice_get (parameters_of kind) j)) (values.nin_of (declared self.now.evaluator.table.now) (link_of self.now.evaluator.table.now place.now) place.now.start.index (sizes_of_steps self.now.evaluator.table.now place.now) place.now.steps.now kind) (parameter_row row.now) (Some (bound binding.now))) result }
     {

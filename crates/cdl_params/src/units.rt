@@ -2,11 +2,12 @@
 ghost use Rattle.std.specs.Prelude.{◌≡◌, ◌≤◌, ◌++◌, ◌∷◌, [], IfOk, OnOk, Option, Some, codes, drop, length, map, option_map};
 ghost use Rattle.cdl_array.specs.Outcomes.{Answers};
 ghost use Rattle.cdl_kinds.specs.Groups.{group_row};
-ghost use Rattle.cdl_paths.specs.Bindings.{bound, the_given};
+ghost use Rattle.cdl_paths.specs.Bindings.{binding_of as binding_in, bound, the_given};
 ghost use Rattle.cdl_paths.specs.HandOut as handing;
 ghost use Rattle.cdl_scopes.specs.Classes.{declared};
 ghost use Rattle.cdl_worth.specs.Units as spec;
 ghost use Rattle.cdl_worth.specs.Values as values;
+ghost use Rattle.cdl_eval.specs.Families.{Binds};
 ghost use Rattle.cdl_eval.specs.Leads.{Leads};
 ghost use Rattle.cdl_eval.specs.Places.{link_of, sizes_of_steps, weight_of, worth_at};
 ghost use Rattle.cdl_array.specs.Scalars.{scalar as scalar_in};
@@ -19,7 +20,7 @@ use crate::kinds::INPUTS;
 use crate::value::Valuation;
 use cdl_array::{EvalFault, scalar};
 use cdl_classes::{ClassId, Found};
-use cdl_eval::{Place, Store, behind, behind_next, copy_steps, push_all, wanted};
+use cdl_eval::{Place, Shared, Store, behind, behind_next, copy_steps, push_all, wanted};
 use cdl_kinds::{Group, Kind, input_groups, output_groups};
 use cdl_paths::{Binding, Giver, Step, binding_of, eaches, indices_left, member_of, site, units};
 use cdl_source::rules::UNKNOWN_NAME;
@@ -205,6 +206,31 @@ impl<'t, F: Fn(&mut Store<'_>, u32, ClassId, &[Step], &[u8]) -> Result<Array, Ev
         }
     }
 
+    // The value of the expression that gives the connector of this name, to which these steps lead, its units.
+    #[tactic(auto, using(crate::proofs::Telling::take_through))]
+    fn unit_value(
+        &self,
+        e: &mut Store<'_>,
+        place: &Place<'_>,
+        name: &[u8],
+        steps: &[Step],
+        giver: &Giver<'_>,
+    ) -> Result<Shared, EvalFault>
+        requires files { e.old.files ≡ self.now.evaluator.table.now }
+        requires leads { Leads (weight_of place.now) (F.pre self.now.evaluator.link) (F.post self.now.evaluator.link) }
+        requires path { steps.now ≡ spec.through place.now.steps.now name.now }
+        requires binds { Binds self.now.evaluator.table.now place.now.start.index (spec.through place.now.steps.now name.now) (codes "unit") (the_given giver.now.steps giver.now.args.now giver.now.value.now) }
+        ensures same { e.new ≡ e.old }
+        ensures answers { Answers (values.written (declared self.now.evaluator.table.now) (link_of self.now.evaluator.table.now place.now) place.now.start.index (sizes_of_steps self.now.evaluator.table.now place.now) place.now.steps.now (the_given giver.now.steps giver.now.args.now giver.now.value.now)) result }
+    {
+        if giver.steps <= place.steps.len() {
+            return self
+                .evaluator
+                .given(e, place, steps, UNIT.as_bytes(), giver);
+        }
+        self.evaluator.written_anew(e, place, giver)
+    }
+
     // The units that are given to a connector of this name and shape.
     fn given_unit(
         &self,
@@ -216,16 +242,17 @@ impl<'t, F: Fn(&mut Store<'_>, u32, ClassId, &[Step], &[u8]) -> Result<Array, Ev
     ) -> Result<Array, EvalFault>
         requires files { e.old.files ≡ self.now.evaluator.table.now }
         requires leads { Leads (weight_of place.now) (F.pre self.now.evaluator.link) (F.post self.now.evaluator.link) }
+        requires binds { Binds self.now.evaluator.table.now place.now.start.index (spec.through place.now.steps.now name.now) (codes "unit") (the_given giver.now.steps giver.now.args.now giver.now.value.now) }
         requires few { length shape ≤ 2 }
         ensures same { e.new ≡ e.old }
         ensures answers { let g = the_given giver.now.steps giver.now.args.now giver.now.value.now in
             Answers (spec.given_unit (declared self.now.evaluator.table.now) (link_of self.now.evaluator.table.now place.now) place.now.start.index (sizes_of_steps self.now.evaluator.table.now place.now) place.now.steps.now (values.outs (spec.through place.now.steps.now name.now) (codes "unit") g) shape g) result }
     {
-        let value = match self.evaluator.written(e, place, giver) {
+        let steps = through(self.evaluator.alloc, place.steps, name)?;
+        let value = match self.unit_value(e, place, name, steps.items(), giver) {
             Ok(value) => value,
             Err(fault) => return Err(fault),
         };
-        let steps = through(self.evaluator.alloc, place.steps, name)?;
         let rest = behind_next(steps.items(), giver.steps);
         let outs = eaches(self.evaluator.alloc, giver.args, rest, UNIT.as_bytes())?;
         let mut sizes = match self.evaluator.gathered(e, place, outs.items(), giver.steps) {
@@ -241,7 +268,7 @@ impl<'t, F: Fn(&mut Store<'_>, u32, ClassId, &[Step], &[u8]) -> Result<Array, Ev
             wanted.items(),
             indices.items(),
             shape,
-            &value,
+            value.array(),
         )
     }
 
@@ -256,6 +283,7 @@ impl<'t, F: Fn(&mut Store<'_>, u32, ClassId, &[Step], &[u8]) -> Result<Array, Ev
     ) -> Result<Array, EvalFault>
         requires files { e.old.files ≡ self.now.evaluator.table.now }
         requires leads { Leads (weight_of place.now) (F.pre self.now.evaluator.link) (F.post self.now.evaluator.link) }
+        requires binds { binding_in (declared self.now.evaluator.table.now) (values.the_class place.now.start.index) 0 (spec.through place.now.steps.now name.now) (codes "unit") ≡ Some (bound binding.now) }
         requires few { length shape ≤ 2 }
         ensures same { e.new ≡ e.old }
         ensures answers { Answers (spec.unit_by (declared self.now.evaluator.table.now) (link_of self.now.evaluator.table.now place.now) place.now.start.index (sizes_of_steps self.now.evaluator.table.now place.now) place.now.steps.now name.now shape (Some (bound binding.now))) result }

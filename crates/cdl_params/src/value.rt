@@ -7,6 +7,7 @@ ghost use Rattle.cdl_paths.specs.Members.{declaration, member as member_in};
 ghost use Rattle.cdl_scopes.specs.Classes.{declared};
 ghost use Rattle.cdl_worth.specs.Sizes.{declared_sizes as declared_in, gather};
 ghost use Rattle.cdl_worth.specs.Values as values;
+ghost use Rattle.cdl_eval.specs.Families.{Binds};
 ghost use Rattle.cdl_eval.specs.Kept.{classes};
 ghost use Rattle.cdl_eval.specs.Leads.{Leads};
 ghost use Rattle.cdl_eval.specs.Places.{link_of, sizes_of_steps, weight_of, worth_at};
@@ -133,6 +134,7 @@ impl<'t, F: Fn(&mut Store<'_>, u32, ClassId, &[Step], &[u8]) -> Result<Array, Ev
     ) -> Result<Array, EvalFault>
         requires files { e.old.files ≡ self.now.evaluator.table.now }
         requires leads { Leads (weight_of place.now) (F.pre self.now.evaluator.link) (F.post self.now.evaluator.link) }
+        requires binds { binding_in (declared self.now.evaluator.table.now) (values.the_class place.now.start.index) 0 place.now.steps.now name.now ≡ Some (bound binding.now) }
         ensures same { e.new ≡ e.old }
         ensures answers { Answers (values.item_value (declared self.now.evaluator.table.now) (link_of self.now.evaluator.table.now place.now) place.now.start.index (sizes_of_steps self.now.evaluator.table.now place.now) place.now.steps.now name.now (declaration item.now class) (Some (bound binding.now))) result }
     {
@@ -159,15 +161,19 @@ impl<'t, F: Fn(&mut Store<'_>, u32, ClassId, &[Step], &[u8]) -> Result<Array, Ev
     ) -> Result<Array, EvalFault>
         requires files { e.old.files ≡ self.now.evaluator.table.now }
         requires leads { Leads (weight_of place.now) (F.pre self.now.evaluator.link) (F.post self.now.evaluator.link) }
+        requires binds { Binds self.now.evaluator.table.now place.now.start.index place.now.steps.now name.now (the_given giver.now.steps giver.now.args.now giver.now.value.now) }
         ensures same { e.new ≡ e.old }
         ensures answers { Answers (values.given_value (declared self.now.evaluator.table.now) (link_of self.now.evaluator.table.now place.now) place.now.start.index (sizes_of_steps self.now.evaluator.table.now place.now) place.now.steps.now name.now value_type (declared_in (worth_at self.now.evaluator.table.now place.now []) dims.now) (the_given giver.now.steps giver.now.args.now giver.now.value.now)) result }
     {
-        let value = match self.evaluator.written(e, place, giver) {
+        let value = match self.evaluator.given(e, place, place.steps, name, giver) {
             Ok(value) => value,
             Err(fault) => return Err(fault),
         };
         match self.evaluator.declared_sizes(e, place, dims) {
-            Ok(own) => self.handed(e, place, name, value_type, own.items(), giver, &value),
+            Ok(own) => {
+                let value = value.array();
+                self.handed(e, place, name, value_type, own.items(), giver, value)
+            }
             Err(fault) => Err(fault),
         }
     }

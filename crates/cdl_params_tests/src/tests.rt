@@ -253,3 +253,33 @@ fn chains_end_at_64_links_in_any_order(rt: HostRuntime) -> Result<(), Fail> {
     }
     Ok(())
 }
+
+// A literal of 4,096 sums, handed out over an array of as many instances.
+fn handed_out(alloc: Global) -> Result<String, Fail> {
+    let mut text = String::from_str(
+        alloc,
+        "block N parameter Integer k; end N; block M parameter Integer t[256] = fill(1, 256); N n[4096](k = {sum(t)",
+    )?;
+    for _ in 1..4096u32 {
+        text.push_str(", sum(t)")?;
+    }
+    text.push_str("}); end M;")?;
+    Ok(text)
+}
+
+// It would take minutes if the literal were evaluated for each instance.
+#[test]
+fn a_literal_is_evaluated_once_for_an_array(rt: HostRuntime) -> Result<(), Fail> {
+    let texts = handed_out(rt.alloc())?;
+    let table = table(rt.alloc(), texts.as_str())?;
+    let root = table.root("M").ok_or("no root")?;
+    let mut elaborator = Elaborator::new(rt.alloc(), &table, root);
+    for i in 1..4097u32 {
+        let question = format!(in rt.alloc(); "value/n[{i}]/k/I:256")?;
+        assert!(rt;
+            is_answered(rt.alloc(), &mut elaborator, question.as_str())?,
+            "{question}"
+        );
+    }
+    Ok(())
+}

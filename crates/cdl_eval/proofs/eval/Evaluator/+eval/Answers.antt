@@ -1,5 +1,5 @@
-use Rattle.std.proofs.Common.{◌≡◌, Bool, true, false, map, rules, Ok}
-use Rattle.cdl_array.specs.Outcomes.{Outcome, then_to}
+use Rattle.std.proofs.Common.{◌≡◌, true, false, map, Ok}
+use Rattle.cdl_array.specs.Outcomes.{then_to}
 use Rattle.cdl_array.specs.Operators.{condition}
 use Rattle.cdl_worth.specs.Expressions.{all, eval}
 use Rattle.cdl_eval.specs.Places.{names_of, worth_at}

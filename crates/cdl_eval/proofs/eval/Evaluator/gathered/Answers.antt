@@ -1,5 +1,5 @@
 use Rattle.std.proofs.Common.{ℕ, ◌≡◌, ◌<◌, ◌-◌, ◌++◌, [], List, length, get_or, sym, ap, ◌∙◌, subst, arith, take, drop, cond, Ok, Err}
-use Rattle.cdl_array.specs.Outcomes.{Answers, Outcome}
+use Rattle.cdl_array.specs.Outcomes.{Answers}
 use Rattle.cdl_scopes.specs.Classes.{declared}
 use Rattle.cdl_paths.specs.declared.path.Step.{Step}
 use Rattle.cdl_worth.specs.Sizes.{gather}
