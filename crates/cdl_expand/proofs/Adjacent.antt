@@ -12,14 +12,14 @@ use Rattle.cdl_params.specs.Kept.{Model}
 use Rattle.cdl_stations.specs.Keys.{Key, Before, Lists, Sorted, In as InKeys}
 use Rattle.cdl_stations.proofs.Firsts.{inside}
 use Rattle.cdl_stations.proofs.Unique.{before_asym, before_self}
-use Rattle.cdl_walk.specs.declared.role.Part.{Part}
-use Rattle.cdl_walk.specs.declared.role.Part.TheVariants as part
-use Rattle.cdl_walk.specs.declared.role.Role.TheVariants as role
+use Rattle.cdl_items.specs.declared.role.Part.{Part}
+use Rattle.cdl_items.specs.declared.role.Part.TheVariants as part
+use Rattle.cdl_items.specs.declared.role.Role.TheVariants as role
 use Rattle.cdl_walk.specs.declared.walked.Point.{Point}
 use Rattle.cdl_walk.specs.Elements.{indices_at}
 use Rattle.cdl_walk.specs.Events.{outer}
 use Rattle.cdl_walk.specs.Instances.{Thing, Block, Elementary, Elements, Seen, elements, IsOfKind, IsPart, IsThing, instances_from, instances_in}
-use Rattle.cdl_walk.specs.Roles.{role_of}
+use Rattle.cdl_items.specs.Roles.{role_of}
 use Rattle.cdl_walk.specs.Stations.{the_root}
 use Rattle.cdl_model.proofs.Keyed.{Marks, Below, step, at_item, below, above, of_kind, block_mark, item_mark, kind_mark, starts}
 use Rattle.cdl_expand.proofs.Rooted.{block_seen, marks_path}

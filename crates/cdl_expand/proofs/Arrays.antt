@@ -17,11 +17,11 @@ use Rattle.cdl_scopes.specs.Lookup.{item_name}
 use Rattle.cdl_classes.specs.declared.found.ClassId.{ClassId}
 use Rattle.cdl_paths.specs.declared.path.Step.{Step}
 use Rattle.cdl_params.specs.Kept.{Model}
-use Rattle.cdl_walk.specs.declared.role.Part.{Part}
-use Rattle.cdl_walk.specs.declared.role.Role.TheVariants as role
+use Rattle.cdl_items.specs.declared.role.Part.{Part}
+use Rattle.cdl_items.specs.declared.role.Role.TheVariants as role
 use Rattle.cdl_walk.specs.declared.walked.Point.{Point}
 use Rattle.cdl_walk.specs.Elements.{points, point_at, tabulate, indices_at}
-use Rattle.cdl_walk.specs.Roles.{role_of}
+use Rattle.cdl_items.specs.Roles.{role_of}
 use Rattle.cdl_walk.specs.Texts.{indices_text, step_text}
 use Rattle.cdl_model.specs.Apart.{NamesApart}
 use Rattle.cdl_model.proofs.Joined.{apart_append, in_either}

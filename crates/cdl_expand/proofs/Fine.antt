@@ -20,19 +20,19 @@ use Rattle.cdl_paths.specs.declared.path.Step.{Step}
 use Rattle.cdl_params.specs.Kept.{Model}
 use Rattle.cdl_stations.specs.Keys.{Key}
 use Rattle.cdl_stations.specs.Runs.{on_ok}
-use Rattle.cdl_walk.specs.declared.role.Part.{Part}
-use Rattle.cdl_walk.specs.declared.role.Part.TheVariants as part
-use Rattle.cdl_walk.specs.declared.role.Role.TheVariants as role
+use Rattle.cdl_items.specs.declared.role.Part.{Part}
+use Rattle.cdl_items.specs.declared.role.Part.TheVariants as part
+use Rattle.cdl_items.specs.declared.role.Role.TheVariants as role
 use Rattle.cdl_walk.specs.declared.walked.KindInstance.{KindInstance}
 use Rattle.cdl_walk.specs.declared.walked.Point.{Point}
 use Rattle.cdl_walk.specs.Elements.{indices_at, is_real, points, port_sizes}
 use Rattle.cdl_walk.specs.Events.{Event, Fails, Opens, Begins}
 use Rattle.cdl_walk.specs.Faults.{Fault, at, named}
-use Rattle.cdl_walk.specs.Finals.{a_unit, a_value, modifies_final}
+use Rattle.cdl_items.specs.Finals.{a_unit, a_value, modifies_final}
 use Rattle.cdl_walk.specs.Instances.{Thing, Block, Elementary, Elements, elements, connector_elements, plain_units, ports_from, ports_of, values, IsOfKind, IsPart, IsThing}
 use Rattle.cdl_walk.specs.Judges.{NoneFails}
 use Rattle.cdl_walk.specs.Places.{Here, entered, inside, start}
-use Rattle.cdl_walk.specs.Roles.{role_of}
+use Rattle.cdl_items.specs.Roles.{role_of}
 use Rattle.cdl_walk.specs.Rows.{fit}
 use Rattle.cdl_walk.specs.Stations.{unless, unless_rule, no_element, component_station, items_in, parameter_station, parameter_stations, conditions_station, port_station, port_stations, ports, units, the_kind, block_station, stands, skips, ForItem, ForPart, ForElement, InKind, InBlock, InItem, InModel, the_root}
 use Rattle.cdl_walk.specs.Worth.{value, dims, present, unit}

@@ -22,16 +22,16 @@ use Rattle.cdl_params.specs.Kept.{Model}
 use Rattle.cdl_stations.specs.Keys.{Key, Before, Lists, Below as BelowNumber, under, upto, In as InKeys}
 use Rattle.cdl_stations.proofs.Grown.{lists_like, lists_nothing, lists_one}
 use Rattle.cdl_stations.proofs.Unique.{lists_same}
-use Rattle.cdl_walk.specs.declared.role.Part.{Part}
-use Rattle.cdl_walk.specs.declared.role.Part.TheVariants as part
-use Rattle.cdl_walk.specs.declared.role.Role.{Role}
-use Rattle.cdl_walk.specs.declared.role.Role.TheVariants as role
+use Rattle.cdl_items.specs.declared.role.Part.{Part}
+use Rattle.cdl_items.specs.declared.role.Part.TheVariants as part
+use Rattle.cdl_items.specs.declared.role.Role.{Role}
+use Rattle.cdl_items.specs.declared.role.Role.TheVariants as role
 use Rattle.cdl_walk.specs.declared.walked.Point.{Point}
 use Rattle.cdl_walk.specs.Elements.{points, tabulate, indices_at}
 use Rattle.cdl_walk.specs.Events.{same_steps}
 use Rattle.cdl_walk.specs.Instances.{Thing, Block, Elementary, Elements, elements, connector_elements, plain_units, values, ports_of, IsWorth, IsOfKind, IsPart, IsElement, IsThing, IsInItem}
 use Rattle.cdl_walk.specs.Places.{Here, entered, inside}
-use Rattle.cdl_walk.specs.Roles.{items_of, role_of}
+use Rattle.cdl_items.specs.Roles.{items_of, role_of}
 use Rattle.cdl_walk.specs.Stations.{ForItem}
 use Rattle.cdl_walk.specs.Worth.{dims, present}
 use Rattle.cdl_model.specs.Networks.{parent_path}

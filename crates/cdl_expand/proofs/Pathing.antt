@@ -27,8 +27,8 @@ use Rattle.cdl_paths.specs.declared.path.Step.{Step}
 use Rattle.cdl_params.specs.Kept.{Model}
 use Rattle.cdl_stations.specs.Keys.{Key, Lists, In as InKeys}
 use Rattle.cdl_stations.proofs.Grown.{lists_like}
-use Rattle.cdl_walk.specs.declared.role.Part.{Part}
-use Rattle.cdl_walk.specs.declared.role.Part.TheVariants as part
+use Rattle.cdl_items.specs.declared.role.Part.{Part}
+use Rattle.cdl_items.specs.declared.role.Part.TheVariants as part
 use Rattle.cdl_walk.specs.declared.walked.Content.{Content}
 use Rattle.cdl_walk.specs.declared.walked.Content.TheVariants as content
 use Rattle.cdl_walk.specs.declared.walked.Point.{Point}

@@ -45,12 +45,12 @@ use Rattle.cdl_worth.specs.Units.{unit as unit_in}
 use Rattle.cdl_worth.specs.Values.{Link, StepSizes, the_class, link, outs, sizes, written}
 use Rattle.cdl_params.specs.Kept.{Model, classes}
 use Rattle.cdl_stations.specs.Keys.{Key, In as InKeys}
-use Rattle.cdl_walk.specs.declared.role.Role.TheVariants as role
+use Rattle.cdl_items.specs.declared.role.Role.TheVariants as role
 use Rattle.cdl_walk.specs.declared.walked.Point.{Point}
 use Rattle.cdl_walk.specs.Elements.{is_real, point_at, points, port_sizes, text_in, text_of, unit_at}
 use Rattle.cdl_walk.specs.Instances.{Thing, Block, Elementary, Elements, Seen, Owned, IsThing, owned_by, elements_from, elements_in, instances_in, plain_units, ports_from, ports_of}
 use Rattle.cdl_walk.specs.Events.{same_steps}
-use Rattle.cdl_walk.specs.Roles.{class_at, plain_role, role_by, role_of}
+use Rattle.cdl_items.specs.Roles.{class_at, plain_role, role_by, role_of}
 use Rattle.cdl_walk.specs.Stations.{items_in, the_root}
 use Rattle.cdl_walk.specs.Worth.{dims, present, unit}
 use Rattle.cdl_model.specs.Parts.{Unfolding, AreParts, by_instance, own}

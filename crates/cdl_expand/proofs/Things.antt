@@ -15,8 +15,8 @@ use Rattle.cdl_stations.specs.Keys.{Key, Before, Lists, Sorted, In as InKeys}
 use Rattle.cdl_stations.proofs.FromRuns.{Splits, split}
 use Rattle.cdl_stations.proofs.Grown.{in_left, in_right, in_either}
 use Rattle.cdl_stations.proofs.Unique.{before_self, sorted_across}
-use Rattle.cdl_walk.specs.declared.role.Part.{Part}
-use Rattle.cdl_walk.specs.declared.role.Part.TheVariants as part
+use Rattle.cdl_items.specs.declared.role.Part.{Part}
+use Rattle.cdl_items.specs.declared.role.Part.TheVariants as part
 use Rattle.cdl_walk.specs.declared.walked.Content.TheVariants as content
 use Rattle.cdl_walk.specs.declared.walked.Point.{Point}
 use Rattle.cdl_walk.specs.Elements.{indices_at}

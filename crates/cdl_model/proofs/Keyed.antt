@@ -16,13 +16,13 @@ use Rattle.cdl_classes.specs.declared.found.ClassId.{ClassId}
 use Rattle.cdl_paths.specs.declared.path.Step.{Step}
 use Rattle.cdl_params.specs.Kept.{Model}
 use Rattle.cdl_stations.specs.Keys.{Key}
-use Rattle.cdl_walk.specs.declared.role.Part.{Part}
-use Rattle.cdl_walk.specs.declared.role.Part.TheVariants as part
-use Rattle.cdl_walk.specs.declared.role.Role.{Role}
-use Rattle.cdl_walk.specs.declared.role.Role.TheVariants as role
+use Rattle.cdl_items.specs.declared.role.Part.{Part}
+use Rattle.cdl_items.specs.declared.role.Part.TheVariants as part
+use Rattle.cdl_items.specs.declared.role.Role.{Role}
+use Rattle.cdl_items.specs.declared.role.Role.TheVariants as role
 use Rattle.cdl_walk.specs.declared.walked.Point.{Point}
 use Rattle.cdl_walk.specs.Elements.{points, point_at, tabulate, indices_at}
-use Rattle.cdl_walk.specs.Roles.{items_of, role_of}
+use Rattle.cdl_items.specs.Roles.{items_of, role_of}
 use Rattle.cdl_walk.specs.Worth.{present, dims}
 use Rattle.cdl_walk.specs.Stations.{ForItem}
 use Rattle.cdl_walk.specs.Instances.{Thing, Block, Elementary, Elements, elements, plain_units, connector_elements, values, ports_of, IsWorth, IsOfKind, IsPart, IsElement, IsThing, IsInItem}

@@ -18,8 +18,8 @@ use Rattle.cdl_paths.specs.declared.path.Step.{Step}
 use Rattle.cdl_params.specs.Kept.{Model}
 use Rattle.cdl_stations.specs.Keys.{Key, Sorted, Lists, In as InKeys}
 use Rattle.cdl_stations.proofs.Unique.{before_self}
-use Rattle.cdl_walk.specs.declared.role.Part.{Part}
-use Rattle.cdl_walk.specs.declared.role.Part.TheVariants as part
+use Rattle.cdl_items.specs.declared.role.Part.{Part}
+use Rattle.cdl_items.specs.declared.role.Part.TheVariants as part
 use Rattle.cdl_walk.specs.declared.walked.Point.{Point}
 use Rattle.cdl_walk.specs.Elements.{points, point_at, port_sizes, indices_at}
 use Rattle.cdl_walk.specs.Events.{outer, same_steps}

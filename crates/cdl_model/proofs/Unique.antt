@@ -10,11 +10,11 @@ use Rattle.cdl_classes.specs.declared.found.ClassId.{ClassId}
 use Rattle.cdl_paths.specs.declared.path.Step.{Step}
 use Rattle.cdl_params.specs.Kept.{Model}
 use Rattle.cdl_stations.specs.Keys.{Key}
-use Rattle.cdl_walk.specs.declared.role.Part.{Part}
-use Rattle.cdl_walk.specs.declared.role.Part.TheVariants as part
-use Rattle.cdl_walk.specs.declared.role.Role.TheVariants as role
+use Rattle.cdl_items.specs.declared.role.Part.{Part}
+use Rattle.cdl_items.specs.declared.role.Part.TheVariants as part
+use Rattle.cdl_items.specs.declared.role.Role.TheVariants as role
 use Rattle.cdl_walk.specs.Elements.{indices_at}
-use Rattle.cdl_walk.specs.Roles.{role_of}
+use Rattle.cdl_items.specs.Roles.{role_of}
 use Rattle.cdl_walk.specs.Instances.{Thing, elements, IsOfKind, IsPart, IsThing}
 use Rattle.cdl_model.specs.Apart.{NamesApart}
 use Rattle.cdl_model.proofs.Keyed.{Mark, Marks, Below, step, of_kind, at_item, below, block_mark, item_mark, goes_on, not_longer}

@@ -9,7 +9,7 @@ use Rattle.cdl_scopes.specs.Classes.{declared}
 use Rattle.cdl_scopes.specs.Lookup.{item_name}
 use Rattle.cdl_tree.specs.declared.class.Item.{Item}
 use Rattle.cdl_walk.specs.Events.{same_steps}
-use Rattle.cdl_walk.specs.Roles.{items_of}
+use Rattle.cdl_items.specs.Roles.{items_of}
 use Rattle.cdl_model.specs.Names.{ElementName}
 use Rattle.cdl_model.specs.Parts.{Unfolding, AreParts}
 use Rattle.cdl_model.specs.Networks.{paths, names, parent_path, content_at, is_elementary}

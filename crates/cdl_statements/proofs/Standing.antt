@@ -37,7 +37,7 @@ use Rattle.cdl_walk.specs.declared.walked.Instance.{Instance}
 use Rattle.cdl_walk.specs.declared.walked.Point.{Point}
 use Rattle.cdl_walk.specs.Elements.{tabulate, point_at, points, port_sizes, indices_at}
 use Rattle.cdl_walk.specs.Instances.{Thing, Block, Elementary, Elements, IsThing, Seen, Owned, owned_by, instances_from, elements_from, instances_in, elements_in, seen_instance, seen_element, plain_units, ports_from}
-use Rattle.cdl_walk.specs.Roles.{items_of}
+use Rattle.cdl_items.specs.Roles.{items_of}
 use Rattle.cdl_walk.specs.Stations.{the_root}
 use Rattle.cdl_walk.specs.Places.{start}
 use Rattle.cdl_walk.specs.Worth.{dims}
@@ -46,12 +46,12 @@ use Rattle.cdl_classes.specs.Table.{item_of}
 use Rattle.cdl_params.specs.Kept.{classes}
 use Rattle.cdl_worth.specs.Values.{evaluate as evaluate_by}
 use Rattle.cdl_kinds.specs.Parameters.{parameters}
-use Rattle.cdl_walk.specs.declared.role.Part.{Part}
-use Rattle.cdl_walk.specs.declared.role.Part.TheVariants as part
-use Rattle.cdl_walk.specs.declared.role.Role.{Role}
-use Rattle.cdl_walk.specs.declared.role.Role.TheVariants as role
+use Rattle.cdl_items.specs.declared.role.Part.{Part}
+use Rattle.cdl_items.specs.declared.role.Part.TheVariants as part
+use Rattle.cdl_items.specs.declared.role.Role.{Role}
+use Rattle.cdl_items.specs.declared.role.Role.TheVariants as role
 use Rattle.cdl_walk.specs.Instances.{values}
-use Rattle.cdl_walk.specs.Roles.{role_of}
+use Rattle.cdl_items.specs.Roles.{role_of}
 use Rattle.cdl_walk.specs.Worth.{value, present}
 use Rattle.cdl_source.specs.declared.rules.TheConstants.{SHAPES_DIFFER}
 use Rattle.cdl_statements.specs.declared.verdicts.Verdict.{Verdict}

@@ -12,11 +12,11 @@ use Rattle.cdl_classes.specs.declared.found.ClassId.{ClassId}
 use Rattle.cdl_classes.specs.Table.{item_of}
 use Rattle.cdl_paths.specs.Members.{item_at}
 use Rattle.cdl_worth.specs.Units.{group_named}
-use Rattle.cdl_walk.specs.declared.role.Part.{Part}
-use Rattle.cdl_walk.specs.declared.role.Part.TheVariants as part
-use Rattle.cdl_walk.specs.declared.role.Role.{Role}
-use Rattle.cdl_walk.specs.declared.role.Role.TheVariants as role
-use Rattle.cdl_walk.specs.Roles.{role_of}
+use Rattle.cdl_items.specs.declared.role.Part.{Part}
+use Rattle.cdl_items.specs.declared.role.Part.TheVariants as part
+use Rattle.cdl_items.specs.declared.role.Role.{Role}
+use Rattle.cdl_items.specs.declared.role.Role.TheVariants as role
+use Rattle.cdl_items.specs.Roles.{role_of}
 
 -- a connector of a declared block, or the ports of one name of a kind
 pub data Connector : Type 0 where

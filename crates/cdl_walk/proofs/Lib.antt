@@ -1,4 +1,3 @@
-pub mod ArgumentLaws
 pub mod Indices
 pub mod Behind
 pub mod Fitting

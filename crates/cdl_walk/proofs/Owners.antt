@@ -22,10 +22,10 @@ use Rattle.cdl_stations.specs.Keys.{Key, Before, In, Sorted, Lists}
 use Rattle.cdl_stations.specs.Runs.{on_ok, goes, Went}
 use Rattle.cdl_stations.proofs.Grown.{in_left, in_right, in_either}
 use Rattle.cdl_stations.proofs.Unique.{before_asym, before_self, sorted_across}
-use Rattle.cdl_walk.specs.declared.role.Part.{Part}
-use Rattle.cdl_walk.specs.declared.role.Part.TheVariants as part
-use Rattle.cdl_walk.specs.declared.role.Role.{Role}
-use Rattle.cdl_walk.specs.declared.role.Role.TheVariants as role
+use Rattle.cdl_items.specs.declared.role.Part.{Part}
+use Rattle.cdl_items.specs.declared.role.Part.TheVariants as part
+use Rattle.cdl_items.specs.declared.role.Role.{Role}
+use Rattle.cdl_items.specs.declared.role.Role.TheVariants as role
 use Rattle.cdl_walk.specs.declared.walked.Content.{Content}
 use Rattle.cdl_walk.specs.declared.walked.Content.TheVariants as content
 use Rattle.cdl_walk.specs.declared.walked.Element.{Element}
@@ -33,7 +33,7 @@ use Rattle.cdl_walk.specs.declared.walked.Instance.{Instance}
 use Rattle.cdl_walk.specs.declared.walked.KindInstance.{KindInstance}
 use Rattle.cdl_walk.specs.declared.walked.Point.{Point}
 use Rattle.cdl_walk.specs.declared.walked.Walked.{Walked}
-use Rattle.cdl_walk.specs.Roles.{items_of, role_of}
+use Rattle.cdl_items.specs.Roles.{items_of, role_of}
 use Rattle.cdl_walk.specs.Elements.{owned, indices_at}
 use Rattle.cdl_walk.specs.Events.{Event, Fails, Skips, Opens, Begins, Stands, Adds, nothing, outer, same_step, same_steps, number_from, number_at, parent_of, owner_of, instance_of, with_instance, with_elements, has_room, has_room_for, step}
 use Rattle.cdl_walk.specs.Faults.{Fault, named}

@@ -16,13 +16,13 @@ use Rattle.cdl_params.specs.Kept.{Model}
 use Rattle.cdl_stations.specs.Keys.{Key, Below, under, upto}
 use Rattle.cdl_stations.specs.Runs.{Went, StopsAt, FailsAt, Runs, Takes}
 use Rattle.cdl_stations.proofs.Laws.{went_step, at_under, went_one, at_one, went_like, at_like, went_all}
-use Rattle.cdl_walk.specs.declared.role.Part.{Part}
-use Rattle.cdl_walk.specs.declared.role.Part.TheVariants as part
-use Rattle.cdl_walk.specs.declared.role.Role.{Role}
-use Rattle.cdl_walk.specs.declared.role.Role.TheVariants as role
+use Rattle.cdl_items.specs.declared.role.Part.{Part}
+use Rattle.cdl_items.specs.declared.role.Part.TheVariants as part
+use Rattle.cdl_items.specs.declared.role.Role.{Role}
+use Rattle.cdl_items.specs.declared.role.Role.TheVariants as role
 use Rattle.cdl_walk.specs.declared.walked.Walked.{Walked}
 use Rattle.cdl_walk.specs.declared.walked.WalkFault.{WalkFault}
-use Rattle.cdl_walk.specs.Roles.{items_of, role_of}
+use Rattle.cdl_items.specs.Roles.{items_of, role_of}
 use Rattle.cdl_walk.specs.Events.{Event, Skips, step}
 use Rattle.cdl_walk.specs.Elements.{indices_at}
 use Rattle.cdl_walk.specs.Faults.{Fault, named, seen, at, TellsFault}

@@ -15,17 +15,17 @@ use Rattle.cdl_classes.specs.declared.found.ClassId.{ClassId}
 use Rattle.cdl_paths.specs.declared.path.Step.{Step}
 use Rattle.cdl_params.specs.Kept.{Model}
 use Rattle.cdl_stations.specs.Keys.{Key, In, Lists}
-use Rattle.cdl_walk.specs.declared.role.Part.{Part}
-use Rattle.cdl_walk.specs.declared.role.Part.TheVariants as part
-use Rattle.cdl_walk.specs.declared.role.Role.{Role}
-use Rattle.cdl_walk.specs.declared.role.Role.TheVariants as role
+use Rattle.cdl_items.specs.declared.role.Part.{Part}
+use Rattle.cdl_items.specs.declared.role.Part.TheVariants as part
+use Rattle.cdl_items.specs.declared.role.Role.{Role}
+use Rattle.cdl_items.specs.declared.role.Role.TheVariants as role
 use Rattle.cdl_walk.specs.declared.walked.Content.{Content}
 use Rattle.cdl_walk.specs.declared.walked.Content.TheVariants as content
 use Rattle.cdl_walk.specs.declared.walked.Element.{Element}
 use Rattle.cdl_walk.specs.declared.walked.Instance.{Instance}
 use Rattle.cdl_walk.specs.declared.walked.Point.{Point}
 use Rattle.cdl_walk.specs.declared.walked.Walked.{Walked}
-use Rattle.cdl_walk.specs.Roles.{items_of}
+use Rattle.cdl_items.specs.Roles.{items_of}
 use Rattle.cdl_walk.specs.Elements.{points, port_sizes, indices_at, is_real}
 use Rattle.cdl_walk.specs.Worth.{value, dims, present, unit}
 use Rattle.cdl_walk.specs.Stations.{ForItem, items_in, no_element, the_root}

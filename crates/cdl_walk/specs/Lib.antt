@@ -1,7 +1,3 @@
-pub mod Roles
-pub mod Arguments
-pub mod Declarations
-pub mod Finals
 pub mod Faults
 pub mod Places
 pub mod Elements

@@ -5,7 +5,7 @@ use Rattle.cdl_scopes.specs.Lookup.{item_name}
 use Rattle.cdl_classes.specs.declared.found.ClassId.{ClassId}
 use Rattle.cdl_paths.specs.declared.path.Step.{Step}
 use Rattle.cdl_walk.specs.declared.place.Place.{Place}
-use Rattle.cdl_walk.specs.Declarations.{items}
+use Rattle.cdl_items.specs.Declarations.{items}
 
 -- an instance: its path, the declarations of its steps, and the declared blocks of which the instances from the root on are
 pub record Here : Type 0 where

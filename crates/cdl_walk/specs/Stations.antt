@@ -19,19 +19,19 @@ use Rattle.cdl_paths.specs.declared.path.Step.{Step}
 use Rattle.cdl_params.specs.Kept.{Model}
 use Rattle.cdl_stations.specs.Keys.{Key}
 use Rattle.cdl_stations.specs.Runs.{on_ok}
-use Rattle.cdl_walk.specs.declared.role.Part.{Part}
-use Rattle.cdl_walk.specs.declared.role.Part.TheVariants as part
-use Rattle.cdl_walk.specs.declared.role.Role.{Role}
-use Rattle.cdl_walk.specs.declared.role.Role.TheVariants as role
-use Rattle.cdl_walk.specs.declared.arguments.Target.{Target}
-use Rattle.cdl_walk.specs.declared.arguments.Target.TheVariants as target
+use Rattle.cdl_items.specs.declared.role.Part.{Part}
+use Rattle.cdl_items.specs.declared.role.Part.TheVariants as part
+use Rattle.cdl_items.specs.declared.role.Role.{Role}
+use Rattle.cdl_items.specs.declared.role.Role.TheVariants as role
+use Rattle.cdl_items.specs.declared.arguments.Target.{Target}
+use Rattle.cdl_items.specs.declared.arguments.Target.TheVariants as target
 use Rattle.cdl_walk.specs.declared.walked.KindInstance.{KindInstance}
 use Rattle.cdl_walk.specs.declared.walked.Point.{Point}
 use Rattle.cdl_walk.specs.Worth.{value, dims, present, unit}
 use Rattle.cdl_walk.specs.Rows.{fit}
-use Rattle.cdl_walk.specs.Roles.{items_of, role_of}
-use Rattle.cdl_walk.specs.Arguments.{arguments_rule}
-use Rattle.cdl_walk.specs.Finals.{a_value, a_unit, modifies_final, value_is_final, unit_is_final}
+use Rattle.cdl_items.specs.Roles.{items_of, role_of}
+use Rattle.cdl_items.specs.Arguments.{arguments_rule}
+use Rattle.cdl_items.specs.Finals.{a_value, a_unit, modifies_final, value_is_final, unit_is_final}
 use Rattle.cdl_walk.specs.Faults.{Fault, named, at}
 use Rattle.cdl_walk.specs.Places.{Here, start, entered, inside}
 use Rattle.cdl_walk.specs.Elements.{points, port_sizes, indices_at, is_real}

@@ -8,12 +8,12 @@ ghost use Rattle.cdl_walk.specs.Places.{here};
 ghost use Rattle.cdl_walk.specs.Stations as spec;
 
 use crate::elements::{Connector, join, points};
-use crate::finals::{Own, modifies_final};
 use crate::paths::{broken_at, broken_in, fault_in};
 use crate::place::Place;
 use crate::rows::fit;
 use crate::stations::units_of;
 use crate::walked::{KindInstance, Point, WalkFault};
+use cdl_items::{Own, modifies_final};
 use cdl_kinds::{Group, Kind, Parameter, Params, check, input_groups, output_groups, parameters};
 use cdl_params::Elaborator;
 use cdl_source::List;

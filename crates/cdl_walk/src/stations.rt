@@ -4,14 +4,14 @@ ghost use Rattle.cdl_array.specs.Outcomes.{Answers};
 ghost use Rattle.cdl_walk.specs.Places.{here};
 ghost use Rattle.cdl_walk.specs.Stations as spec;
 
-use crate::arguments::{Target, broken_arguments};
 use crate::elements::{Connector, points};
-use crate::finals::{Own, modifies_final, unit_is_final, value_is_final};
 use crate::place::Place;
-use crate::role::Part;
 use crate::walked::Point;
 use cdl_array::EvalFault;
 use cdl_classes::ClassId;
+use cdl_items::{
+    Own, Part, Target, broken_arguments, modifies_final, unit_is_final, value_is_final,
+};
 use cdl_params::Elaborator;
 use cdl_source::List;
 use cdl_source::rules::{CONTAINS_ITSELF, FINAL_MODIFIED};

@@ -1,7 +1,7 @@
 use Rattle.std.proofs.Common.{◌≡◌, ◌+◌, ◌-◌, ◌*◌, ◌++◌, ◌∷◌, [], length}
 use Rattle.cdl_stations.specs.Keys.{upto}
 use Rattle.cdl_stations.specs.Runs.{Went}
-use Rattle.cdl_walk.specs.declared.role.Role.TheVariants as role
+use Rattle.cdl_items.specs.declared.role.Role.TheVariants as role
 use Rattle.cdl_walk.specs.Events.{step}
 use Rattle.cdl_walk.specs.inner.Numbers.{AreNumbers, IsDeeper}
 use Rattle.cdl_walk.specs.Places.{here, inside}

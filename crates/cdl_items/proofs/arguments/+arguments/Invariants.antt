@@ -1,8 +1,8 @@
 use Rattle.std.proofs.Common.{◌≡◌, [], map, take, drop}
 use Rattle.cdl_scopes.specs.Classes.{declared}
 use Rattle.cdl_paths.specs.Modifiers.{name_of}
-use Rattle.cdl_walk.specs.Arguments as spec
-use Rattle.cdl_walk.proofs.arguments.+arguments.Given as goal
+use Rattle.cdl_items.specs.Arguments as spec
+use Rattle.cdl_items.proofs.arguments.+arguments.Given as goal
 
 abbrev pub invariant-broken_arguments-loop-i : goal.invariant-broken_arguments-loop-i
 invariant-broken_arguments-loop-i l =

@@ -13,8 +13,8 @@ use Rattle.cdl_kinds.specs.Table.{Group, ParameterRow}
 use Rattle.cdl_tree.specs.declared.class.Modifier.{Modifier, out-Modifier, the_lemmas}
 use Rattle.cdl_scopes.specs.Classes.{Declared}
 use Rattle.cdl_paths.specs.Modifiers.{args_of, listed, name_of, value_of}
-use Rattle.cdl_walk.specs.declared.arguments.Target.{Target}
-use Rattle.cdl_walk.specs.Arguments.{has_name, has_port, has_parameter, has_group, modified, is_named, is_among, first_rule, rule_for, argument, argument_rule, arguments_rule}
+use Rattle.cdl_items.specs.declared.arguments.Target.{Target}
+use Rattle.cdl_items.specs.Arguments.{has_name, has_port, has_parameter, has_group, modified, is_named, is_among, first_rule, rule_for, argument, argument_rule, arguments_rule}
 
 pub any_map : {X Y : Type 0} (p : Y → Bool) (f : X → Y) (xs : List X) → list_any p (map f xs) ≡ list_any (λ x. p (f x)) xs
 any_map p f [] = refl

@@ -15,14 +15,14 @@ use Rattle.cdl_scopes.specs.Classes.{Declared}
 use Rattle.cdl_classes.specs.Table.{item_of}
 use Rattle.cdl_paths.specs.Members.{item_at}
 use Rattle.cdl_paths.specs.Modifiers.{name_of}
-use Rattle.cdl_walk.specs.declared.role.Part.TheVariants as part
-use Rattle.cdl_walk.specs.declared.role.Role.{Role}
-use Rattle.cdl_walk.specs.declared.role.Role.TheVariants as role
-use Rattle.cdl_walk.specs.declared.arguments.Target.{Target}
-use Rattle.cdl_walk.specs.declared.arguments.Target.TheVariants as target
-use Rattle.cdl_walk.specs.declared.arguments.Modified.{Modified}
-use Rattle.cdl_walk.specs.declared.arguments.Modified.TheVariants as what
-use Rattle.cdl_walk.specs.Roles.{role_of}
+use Rattle.cdl_items.specs.declared.role.Part.TheVariants as part
+use Rattle.cdl_items.specs.declared.role.Role.{Role}
+use Rattle.cdl_items.specs.declared.role.Role.TheVariants as role
+use Rattle.cdl_items.specs.declared.arguments.Target.{Target}
+use Rattle.cdl_items.specs.declared.arguments.Target.TheVariants as target
+use Rattle.cdl_items.specs.declared.arguments.Modified.{Modified}
+use Rattle.cdl_items.specs.declared.arguments.Modified.TheVariants as what
+use Rattle.cdl_items.specs.Roles.{role_of}
 
 abbrev pub is_attribute : List ℕ → Bool
 is_attribute x =

@@ -6,8 +6,8 @@ use Rattle.cdl_tree.specs.declared.class.Prefix.TheVariants as prefix
 use Rattle.cdl_tree.specs.declared.class.Modifier.{Modifier, out-Modifier}
 use Rattle.cdl_scopes.specs.Lookup.{item_name}
 use Rattle.cdl_paths.specs.Modifiers.{args_of, first, value_of}
-use Rattle.cdl_walk.specs.declared.finals.Own.{Own}
-use Rattle.cdl_walk.specs.declared.finals.Own.TheVariants as own
+use Rattle.cdl_items.specs.declared.finals.Own.{Own}
+use Rattle.cdl_items.specs.declared.finals.Own.TheVariants as own
 
 -- what is modified, by its name in its component: a parameter, or the unit of a connector
 pub data OwnName : Type 0 where

@@ -1,5 +1,5 @@
 use Rattle.std.proofs.Common.{length}
-use Rattle.cdl_walk.proofs.finals.+seals.Given as goal
+use Rattle.cdl_items.proofs.finals.+seals.Given as goal
 
 abbrev pub decreases-seals : goal.decreases-seals
 decreases-seals l = length l.inner.now

@@ -1,8 +1,8 @@
 // Arguments that modify what is final, C24.
 ghost use Rattle.std.specs.Prelude.{◌≡◌, option_map};
 ghost use Rattle.cdl_paths.specs.Modifiers.{args_of, first as first_of};
-ghost use Rattle.cdl_walk.specs.Finals as spec;
-ghost use Rattle.cdl_walk.specs.Declarations.{items};
+ghost use Rattle.cdl_items.specs.Finals as spec;
+ghost use Rattle.cdl_items.specs.Declarations.{items};
 
 use cdl_tree::{Item, Modifier, Prefix};
 

@@ -9,9 +9,9 @@ use Rattle.cdl_classes.specs.declared.found.Found.TheVariants as it
 use Rattle.cdl_classes.specs.Rules.{class_of}
 use Rattle.cdl_classes.specs.Table.{items_at}
 use Rattle.cdl_paths.specs.Members.{item_at}
-use Rattle.cdl_walk.specs.declared.role.Part.TheVariants as part
-use Rattle.cdl_walk.specs.declared.role.Role.{Role}
-use Rattle.cdl_walk.specs.declared.role.Role.TheVariants as role
+use Rattle.cdl_items.specs.declared.role.Part.TheVariants as part
+use Rattle.cdl_items.specs.declared.role.Role.{Role}
+use Rattle.cdl_items.specs.declared.role.Role.TheVariants as role
 
 -- the items of the class of this number
 abbrev pub items_of : List Declared → ℕ → List Item

@@ -1,7 +1,7 @@
 // The arguments of declarations, C22 and C23.
 ghost use Rattle.std.specs.Prelude.{◌≡◌, []};
 ghost use Rattle.cdl_scopes.specs.Classes.{declared};
-ghost use Rattle.cdl_walk.specs.Arguments as spec;
+ghost use Rattle.cdl_items.specs.Arguments as spec;
 
 use crate::role::{Part, Role, items_of, role_of};
 use cdl_classes::ClassTable;

@@ -1,7 +1,7 @@
 // What the items of a block are.
 ghost use Rattle.std.specs.Prelude.{◌≡◌};
 ghost use Rattle.cdl_scopes.specs.Classes.{declared};
-ghost use Rattle.cdl_walk.specs.Roles as spec;
+ghost use Rattle.cdl_items.specs.Roles as spec;
 
 use cdl_classes::{ClassId, ClassTable, Found};
 use cdl_kinds::Kind;

@@ -1,0 +1,4 @@
+pub mod Declarations
+pub mod Roles
+pub mod Arguments
+pub mod Finals
