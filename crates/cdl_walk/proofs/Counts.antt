@@ -1,5 +1,5 @@
 -- The machine counts the instances and elements, and keeps what events bring.
-use Rattle.std.proofs.Common.{◌≡◌, ◌<◌, ℕ, suc, ◌+◌, List, [], ◌∷◌, length, map, refl, sym, ap, ◌∙◌, subst, arith, length-append, Result, Ok, Err, Bool, true, false, cond}
+use Rattle.std.proofs.Common.{◌≡◌, ◌<◌, ◌≤◌, ℕ, suc, ◌+◌, List, [], ◌∷◌, length, map, refl, sym, ap, ◌∙◌, subst, arith, length-append, Result, Ok, Err, Bool, true, false, cond}
 use Rattle.std.specs.Prelude.{nat_lt, nat_le}
 use Rattle.std.proofs.lemmas.Bool.Decides.{nat_tests}
 use Rattle.cdl_source.specs.declared.limits.TheConstants.{MOST_ELEMENTS, MOST_INSTANCES}
@@ -22,6 +22,7 @@ use Rattle.cdl_walk.specs.declared.walked.WalkFault.TheVariants as walk
 use Rattle.cdl_walk.specs.Elements.{owned}
 use Rattle.cdl_walk.specs.Events.{Event, Fails, Skips, Opens, Begins, Stands, Adds, nothing, owner_of, instance_of, with_instance, with_elements, has_room, has_room_for, step, instances_in, elements_in, instances_of, elements_of, Bad}
 use Rattle.cdl_walk.specs.Faults.{Fault, seen}
+use Rattle.cdl_walk.specs.inner.Numbers.{IsDeeper}
 use Rattle.cdl_walk.specs.Judges.{Judges}
 
 ok_case : (b : Bool) (k n : Walked) (f : Fault) → cond b (Ok k) (Err f) ≡ Ok n → k ≡ n
@@ -174,3 +175,47 @@ root_fault w h c m f e r q v = judges_fault (InModel w) f
     (subst (λ (z : Walked). StopsAt step (InBlock w start (the_root w)) z (seen f)) q
     (subst (λ (z : ClassId). StopsAt step (InBlock w start z) m (seen f)) (root_is w c r)
     (subst (λ (z : Here). StopsAt step (InBlock w z c) m (seen f)) e v)))
+
+-- ---- what is found is not too much
+
+ok_test : (b : Bool) (k n : Walked) (f : Fault) → cond b (Ok k) (Err f) ≡ Ok n → b ≡ true
+ok_test true k n f h = refl
+ok_test false k n f h = cc
+
+fitting : (a b : ℕ) → nat_le a b ≡ true → a ≤ b
+fitting a b h = grind (arith, nat_tests, h)
+
+-- an event that brings elements, of which there are not too many
+fits_more : (m n : Walked) (x : Event) (points : List Point) → elements_in x ≡ length points → has_room_for m points ≡ true → step m x ≡ Ok n → length n.elements ≤ MOST_ELEMENTS
+fits_more m n x points c f g =
+    let all = one_more m n x (length m.instances) (length m.elements) (record { instances = refl; elements = refl }) g in
+    let long : length n.elements ≡ length m.elements + elements_in x = all.elements in
+    let room : length m.elements + length points ≤ MOST_ELEMENTS = fitting (length m.elements + length points) MOST_ELEMENTS f in
+    omega (arith, long, room, c)
+
+same_few : (m n : Walked) → m ≡ n → length m.elements ≤ MOST_ELEMENTS → length n.elements ≤ MOST_ELEMENTS
+same_few m n e h = subst (λ (w : Walked). length w.elements ≤ MOST_ELEMENTS) e h
+
+step_few : (m n : Walked) (x : Event) → length m.elements ≤ MOST_ELEMENTS → step m x ≡ Ok n → length n.elements ≤ MOST_ELEMENTS
+step_few m n (Fails p r) h g = cc
+step_few m n Skips h g = let same : m ≡ n = cc in same_few m n same h
+step_few m n (Opens p c) h g = same_few (with_instance m p (content.Block c)) n (ok_case (has_room m) _ n _ g) h
+step_few m n (Begins p) h g = same_few m n (ok_case (has_room m) m n _ g) h
+step_few m n (Stands p k v points) h g = fits_more m n (Stands p k v points) points refl (ok_test (has_room_for m points) _ n _ g) g
+step_few m n (Adds p d points) h g = fits_more m n (Adds p d points) points refl (ok_test (has_room_for m points) _ n _ g) g
+
+more_few : (m n : Walked) (x : Key × Event) (xs : List (Key × Event)) (r : Result Walked Fault) → length m.elements ≤ MOST_ELEMENTS → step m x.1 ≡ r
+    → ((k : Walked) → length k.elements ≤ MOST_ELEMENTS → goes step k xs ≡ Ok n → length n.elements ≤ MOST_ELEMENTS) → on_ok r (λ k. goes step k xs) ≡ Ok n → length n.elements ≤ MOST_ELEMENTS
+more_few m n x xs (Ok k) h g f q = f k (step_few m k x.1 h g) q
+more_few m n x xs (Err y) h g f q = cc
+
+goes_few : (m n : Walked) (xs : List (Key × Event)) → length m.elements ≤ MOST_ELEMENTS → goes step m xs ≡ Ok n → length n.elements ≤ MOST_ELEMENTS
+goes_few m n [] h g = let same : m ≡ n = cc in same_few m n same h
+goes_few m n (x ∷ xs) h g = more_few m n x xs (step m x.1) h refl (λ k a b. goes_few k n xs a b) g
+
+no_instances : (m : Walked) → m ≡ nothing → length m.instances ≤ MOST_INSTANCES
+no_instances m e = subst (λ (w : Walked). length w.instances ≤ MOST_INSTANCES) (sym e) (omega arith)
+
+pub root_few : (w : Model) (h : Here) (c : ClassId) (d : ℕ) (m n : Walked) → h ≡ start → c.index ≡ w.root → m ≡ nothing → Went step (InBlock w h c) m n → IsDeeper d m.instances n.instances
+    → (length n.instances ≤ MOST_INSTANCES) × (length n.elements ≤ MOST_ELEMENTS)
+root_few w h c d m n e r q v deep = let went = root_went w h c m n e r q v in (deep.few (no_instances m q), goes_few nothing n went.entries (omega arith) went.goes)

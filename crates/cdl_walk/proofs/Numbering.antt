@@ -1,6 +1,6 @@
 -- The numbers of the instances of which the walk is inside.
 use Rattle.std.proofs.Common.{◌≡◌, ◌<◌, ◌≤◌, ℕ, suc, ◌+◌, ◌-◌, Bool, true, false, cond, List, [], ◌∷◌, ◌++◌, length, take, refl, sym, ap, ◌∙◌, subst, arith, Option, Some, None, Result, Ok, Err, inl, inr, length-append}
-use Rattle.std.specs.Prelude.{OnOk, ◌&&◌, unwrap_or}
+use Rattle.std.specs.Prelude.{OnOk, ◌&&◌, nat_lt, unwrap_or}
 use Rattle.std.specs.List.{slice_get}
 use Rattle.std.specs.Str.{bytes_eq}
 use Rattle.std.proofs.lemmas.Option.{slice_get-get_or, slice_get_past}
@@ -11,6 +11,8 @@ use Rattle.cdl_scopes.specs.Lookup.{item_name}
 use Rattle.cdl_stations.specs.Runs.{Takes}
 use Rattle.cdl_walk.specs.declared.walked.WalkFault.{WalkFault}
 use Rattle.std.proofs.lemmas.Bool.{cases_lt}
+use Rattle.std.proofs.lemmas.Bool.Decides.{nat_tests}
+use Rattle.cdl_source.specs.declared.limits.TheConstants.{MOST_INSTANCES}
 use Rattle.std.proofs.Math.ListN.{get_or-append}
 use Rattle.std.proofs.Math.Seq.{get_or-append_seam}
 use Rattle.cdl_classes.specs.declared.found.ClassId.{ClassId}
@@ -66,8 +68,11 @@ number_other : (p : List Step) (xs : List Instance) (x : Instance) → length p 
 number_other p xs x l = number_push p xs x ∙ ap (λ (b : Bool). cond b (Some (length xs)) (number_at xs p)) (longer_differs x.path.steps p l)
 
 -- one more instance changes nothing above it
-pub push_deeper : (xs : List Instance) (x : Instance) → IsDeeper (depth_of x) xs (xs ++ x ∷ [])
-push_deeper xs x = record { same = λ p l. number_other p xs x l }
+pub push_deeper : (xs : List Instance) (x : Instance) → length xs < MOST_INSTANCES → IsDeeper (depth_of x) xs (xs ++ x ∷ [])
+push_deeper xs x room = record {
+  same = λ p l. number_other p xs x l;
+  few = λ l. (let more : length (xs ++ x ∷ []) ≡ length xs + 1 = length-append xs (x ∷ []) in omega (arith, more, room));
+}
 
 deep_front : (d j : ℕ) (p : List Step) → j < d → length (take j p) < d
 deep_front d j p l = elim (cases_lt (length p) j) as (λ _. length (take j p) < d) [
@@ -79,16 +84,25 @@ pub numbers_deeper : (ns : List ℕ) (d : ℕ) (p : List Step) (olds news : List
 numbers_deeper ns d p olds news a b = record { count = a.count; each = λ j l. b.same (take j p) (deep_front d j p l) ∙ a.each j l }
 
 pub deeper_same : (d : ℕ) (xs : List Instance) → IsDeeper d xs xs
-deeper_same d xs = record { same = λ p l. refl }
+deeper_same d xs = record { same = λ p l. refl; few = λ l. l }
 
 pub deeper_equal : (d : ℕ) (xs ys : List Instance) → ys ≡ xs → IsDeeper d xs ys
 deeper_equal d xs ys e = subst (λ zs. IsDeeper d xs zs) (sym e) (deeper_same d xs)
 
+-- an answer that leaves the instances as they are
+pub kept_deeper : {A : Type 0} (d : ℕ) (xs : List Instance) (r : Result A WalkFault) → OnOk r (IsDeeper d xs xs)
+kept_deeper d xs (Ok x) = deeper_same d xs
+kept_deeper d xs (Err f) = tt
+
+pub equal_deeper : {A : Type 0} (d : ℕ) (xs ys : List Instance) (r : Result A WalkFault) → OnOk r (ys ≡ xs) → OnOk r (IsDeeper d xs ys)
+equal_deeper d xs ys (Ok x) e = deeper_equal d xs ys e
+equal_deeper d xs ys (Err f) e = tt
+
 pub deeper_both : (d : ℕ) (xs ys zs : List Instance) → IsDeeper d xs ys → IsDeeper d ys zs → IsDeeper d xs zs
-deeper_both d xs ys zs a b = record { same = λ p l. b.same p l ∙ a.same p l }
+deeper_both d xs ys zs a b = record { same = λ p l. b.same p l ∙ a.same p l; few = λ l. b.few (a.few l) }
 
 pub deeper_less : (d e : ℕ) (xs ys : List Instance) → e ≤ d → IsDeeper d xs ys → IsDeeper e xs ys
-deeper_less d e xs ys h a = record { same = λ p l. a.same p (omega (arith, h, l)) }
+deeper_less d e xs ys h a = record { same = λ p l. a.same p (omega (arith, h, l)); few = a.few }
 
 get_front : (ns : List ℕ) (n j : ℕ) → j < length ns → slice_get (ns ++ n ∷ []) j ≡ slice_get ns j
 get_front ns n j l = slice_get-get_or (ns ++ n ∷ []) j 0 (let more : length (ns ++ n ∷ []) ≡ length ns + 1 = length-append ns (n ∷ []) in omega (arith, more, l))
@@ -145,23 +159,43 @@ opens_at false p c r a b h = cc
 pub opens_is : (h : Here) (c : ClassId) (a b : Walked) → step a (opens h c) ≡ Ok b → with_instance a h.steps (content.Block c) ≡ b
 opens_is h c a b e = opens_at _ h.steps c _ a b e
 
+-- inside an element of a component
+pub entered_deeper : (h g : Here) (item : Item) (indices : List ℕ) (xs ys : List Instance) → g ≡ entered h item indices → IsDeeper (length g.steps) xs ys → IsDeeper (length h.steps + 1) xs ys
+entered_deeper h g item indices xs ys e d =
+    let more : length (h.steps ++ (record { name = item_name item; indices = indices }) ∷ []) ≡ length h.steps + 1 = length-append h.steps ((record { name = item_name item; indices = indices }) ∷ []) in
+    subst (λ (n : ℕ). IsDeeper n xs ys) (ap (λ (z : Here). length z.steps) e ∙ more) d
+
+room_case : {A : Type 0} (b : Bool) (k n : A) (f : Fault) → cond b (Ok k) (Err f) ≡ Ok n → b ≡ true
+room_case true k n f h = refl
+room_case false k n f h = cc
+
+room_at : (t : Bool) (p : List Step) (c : ClassId) (r : ℕ) (a b : Walked) → step a (cond t (Opens p c) (Fails p r)) ≡ Ok b → has_room a ≡ true
+room_at true p c r a b h = room_case (has_room a) _ b _ h
+room_at false p c r a b h = cc
+
+is_below : (m n : ℕ) → nat_lt m n ≡ true → m < n
+is_below m n h = grind (arith, nat_tests, h)
+
+opened_room : (h : Here) (c : ClassId) (a b : Walked) → step a (opens h c) ≡ Ok b → length a.instances < MOST_INSTANCES
+opened_room h c a b e = is_below (length a.instances) MOST_INSTANCES (room_at _ h.steps c _ a b e)
+
 pub opened_deeper : (h : Here) (c : ClassId) (a b : Walked) → step a (opens h c) ≡ Ok b → IsDeeper (length h.steps) a.instances b.instances
-opened_deeper h c a b e = subst (λ (w : Walked). IsDeeper (length h.steps) a.instances w.instances) (opens_is h c a b e) (push_deeper a.instances (instance_of a.instances h.steps (content.Block c)))
+opened_deeper h c a b e = subst (λ (w : Walked). IsDeeper (length h.steps) a.instances w.instances) (opens_is h c a b e) (push_deeper a.instances (instance_of a.instances h.steps (content.Block c)) (opened_room h c a b e))
 
 pub opened_numbers : (h : Here) (c : ClassId) (ns : List ℕ) (a b : Walked) → step a (opens h c) ≡ Ok b → AreNumbers ns (length h.steps) h.steps a.instances
     → AreNumbers (ns ++ length a.instances ∷ []) (length h.steps + 1) h.steps b.instances
 opened_numbers h c ns a b e n = subst (λ (w : Walked). AreNumbers (ns ++ length a.instances ∷ []) (length h.steps + 1) h.steps w.instances) (opens_is h c a b e)
     (push_numbers ns (length h.steps) h.steps a.instances (instance_of a.instances h.steps (content.Block c)) refl refl n)
 
-pub stood_deeper : (h : Here) (k : Kind) (r : Result KindInstance Fault) (a b : Walked) → step a (stands h k r) ≡ Ok b → IsDeeper (length h.steps) a.instances b.instances
-stood_deeper h k (Err f) a b e = cc
-stood_deeper h k (Ok x) a b e = subst (λ (w : Walked). IsDeeper (length h.steps) a.instances w.instances) (ok_case (has_room_for a x.points) _ b _ e)
-    (push_deeper a.instances (instance_of a.instances h.steps (content.Elementary k x.params)))
+pub stood_deeper : (h : Here) (k : Kind) (r : Result KindInstance Fault) (a b : Walked) → length a.instances < MOST_INSTANCES → step a (stands h k r) ≡ Ok b → IsDeeper (length h.steps) a.instances b.instances
+stood_deeper h k (Err f) a b room e = cc
+stood_deeper h k (Ok x) a b room e = subst (λ (w : Walked). IsDeeper (length h.steps) a.instances w.instances) (ok_case (has_room_for a x.points) _ b _ e)
+    (push_deeper a.instances (instance_of a.instances h.steps (content.Elementary k x.params)) room)
 
-pub settled_deeper : (A : Type 0) (h : Here) (k : Kind) (o : Result KindInstance Fault) (r : Result A WalkFault) (a b : Walked) → Takes seen step a (stands h k o) r b
+pub settled_deeper : (A : Type 0) (h : Here) (k : Kind) (o : Result KindInstance Fault) (r : Result A WalkFault) (a b : Walked) → length a.instances < MOST_INSTANCES → Takes seen step a (stands h k o) r b
     → OnOk r (IsDeeper (length h.steps) a.instances b.instances)
-settled_deeper A h k o (Ok x) a b t = stood_deeper h k o a b t
-settled_deeper A h k o (Err f) a b t = tt
+settled_deeper A h k o (Ok x) a b room t = stood_deeper h k o a b room t
+settled_deeper A h k o (Err f) a b room t = tt
 
 pub no_numbers : AreNumbers [] 0 [] []
 no_numbers = record { count = refl; each = λ d l. absurd (omega (arith, l)) }

@@ -26,7 +26,7 @@ use cdl_classes::ClassId;
 use cdl_items::{Part, Role, items_of, role_of};
 use cdl_kinds::Kind;
 use cdl_params::Elaborator;
-use cdl_source::{List, MOST_INSTANCES, MOST_STEPS};
+use cdl_source::{List, MOST_ELEMENTS, MOST_INSTANCES, MOST_STEPS};
 use cdl_tree::Item;
 use cdl_values::ValueType;
 use std::alloc::Global;
@@ -293,6 +293,7 @@ pub fn walk(alloc: Global, e: &mut Elaborator<'_>) -> Result<Walked, WalkFault>
     ensures kept { e.new ≡ e.old }
     ensures judges { Judges (spec.InModel e.old) result }
     ensures fine { OnOk result (NoneFails (spec.InModel e.old)) }
+    ensures few { IfOk result (λ w. (length w.instances ≤ MOST_INSTANCES) × (length w.elements ≤ MOST_ELEMENTS)) }
     ensures all { IfOk result (AreAll e.old) }
 {
     let root = e.root();

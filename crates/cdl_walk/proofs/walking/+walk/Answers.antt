@@ -51,6 +51,16 @@ pub pass_item-returns-in-Value-clause-runs : goal.pass_item-returns-in-Value-cla
 pass_item-returns-in-Value-clause-runs t c = at.role_value _ c.args.e.now (here c.args.place.now) c.args.item.now c.args.role c.args.walked.now c.args.walked.now c.pass_value.result
     c.in-Value.is (c.pass_value.ensures.takes c.args.walked.now)
 
+pub pass_item-returns-in-Value-clause-deeper : goal.pass_item-returns-in-Value-clause-deeper
+pass_item-returns-in-Value-clause-deeper t c = number.kept_deeper (length c.args.place.now.path.steps + 1) c.args.walked.now.instances c.pass_value.result
+
+pub pass_item-returns-in-Connector-clause-deeper : goal.pass_item-returns-in-Connector-clause-deeper
+pass_item-returns-in-Connector-clause-deeper t c =
+    number.equal_deeper (length c.args.place.now.path.steps + 1) c.args.walked.now.instances c.pass_connector.new.walked.instances c.pass_connector.result c.pass_connector.ensures.instances
+
+pub pass_item-returns-in-Other-clause-deeper : goal.pass_item-returns-in-Other-clause-deeper
+pass_item-returns-in-Other-clause-deeper t c = number.deeper_same (length c.args.place.now.path.steps + 1) c.args.walked.now.instances
+
 pub pass_item-returns-in-Connector-clause-runs : goal.pass_item-returns-in-Connector-clause-runs
 pass_item-returns-in-Connector-clause-runs t c = at.role_connector _ c.args.e.now (here c.args.place.now) c.args.item.now c.args.role c.in-Connector.value_type c.in-Connector.input
     c.args.walked.now c.pass_connector.new.walked c.pass_connector.result c.in-Connector.is c.pass_connector.ensures.takes
@@ -96,6 +106,10 @@ element-returns-in-Err-instance-clause-runs t c = at.entered_stops c.args.e.now 
 
 pub element-returns-clause-same : goal.element-returns-clause-same
 element-returns-clause-same t c = c.leave.ensures.here (here c.args.place.now) c.args.item.now c.in-Ok.indices (c.in-Ok-instance.ensures.same ∙ c.in-Ok-enter.ensures.here)
+
+pub element-returns-clause-deeper : goal.element-returns-clause-deeper
+element-returns-clause-deeper t c = number.entered_deeper (here c.args.place.now) (here c.enter.new.place) c.args.item.now c.in-Ok.indices c.args.walked.now.instances c.instance.new.walked.instances
+    c.in-Ok-enter.ensures.here c.in-Ok-instance.ensures.deeper
 
 pub instance-returns-in-Block-clause-runs : goal.instance-returns-in-Block-clause-runs
 instance-returns-in-Block-clause-runs t c = at.part_block _ c.args.e.now (here c.args.place.now) c.args.part c.in-Block.class c.args.walked.now c.block.new.walked c.block.result c.in-Block.is c.block.ensures.runs

@@ -1,5 +1,6 @@
+use Rattle.std.proofs.Common.{length}
 use Rattle.cdl_walk.specs.Places.{here}
-use Rattle.cdl_walk.proofs.Counts.{root_found, root_fault}
+use Rattle.cdl_walk.proofs.Counts.{root_found, root_fault, root_few}
 use Rattle.cdl_walk.proofs.Owners.{root_all, root_fine}
 use Rattle.cdl_walk.proofs.walking.walk.Goals as goal
 
@@ -18,3 +19,7 @@ returns-in-Ok-clause-all c = root_all c.args.e.now (here c.at_root-place.result)
 pub returns-in-Ok-clause-fine : goal.returns-in-Ok-clause-fine
 returns-in-Ok-clause-fine c = root_fine c.args.e.now (here c.at_root-place.result) c.root-root.result c.nothing-walked.result c.block.new.walked
     c.at_root-place.ensures.here c.root-root.ensures c.nothing-walked.ensures c.in-Ok.ensures.runs
+
+pub returns-in-Ok-clause-few : goal.returns-in-Ok-clause-few
+returns-in-Ok-clause-few c = root_few c.args.e.now (here c.at_root-place.result) c.root-root.result (length c.at_root-place.result.path.steps) c.nothing-walked.result c.block.new.walked
+    c.at_root-place.ensures.here c.root-root.ensures c.nothing-walked.ensures c.in-Ok.ensures.runs c.in-Ok.ensures.deeper
