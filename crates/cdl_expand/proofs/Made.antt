@@ -1,5 +1,5 @@
 -- The net that is made is that of the model.
-use Rattle.std.proofs.Common.{◌≡◌, ◌<◌, ◌≤◌, ℕ, true, List, map, length, refl, sym, ap, ◌∙◌, subst, arith}
+use Rattle.std.proofs.Common.{◌≡◌, ◌<◌, ◌≤◌, ℕ, true, List, map, length, refl, sym, ap, ◌∙◌, subst, arith, IsUtf8}
 use Rattle.std.specs.List.{list_all}
 use Rattle.std.proofs.lemmas.List.{length-map}
 use Rattle.cdl_source.specs.declared.limits.TheConstants.{LONGEST_UNIT, MOST_ELEMENTS, MOST_INSTANCES, MOST_WIRES}
@@ -7,7 +7,7 @@ use Rattle.cdl_connect.specs.declared.net.Net.{Net}
 use Rattle.cdl_connect.specs.declared.net.NetElement.{NetElement}
 use Rattle.cdl_connect.specs.declared.net.RawWire.{RawWire}
 use Rattle.cdl_connect.specs.Nets.{element}
-use Rattle.cdl_connect.specs.WellFormed.{AreByScope, AreComposite, AreNear, AreOfKinds, ArePaths, ArePlain, IsIndexed, IsPreorder, IsWithinLimits, is_plain}
+use Rattle.cdl_connect.specs.WellFormed.{AreByScope, AreComposite, AreNear, AreOfKinds, ArePaths, ArePlain, AreUnits, IsIndexed, IsPreorder, IsWellFormed, IsWithinLimits, is_plain}
 use Rattle.cdl_network.specs.Lists.{In, number}
 use Rattle.cdl_network.specs.Rules.{is_real}
 use Rattle.cdl_network.proofs.Inside.{in_slice}
@@ -25,9 +25,9 @@ use Rattle.cdl_model.specs.Parts.{AreParts, Unfolding}
 use Rattle.cdl_statements.specs.Directory.{NamedWire}
 use Rattle.cdl_statements.specs.Events.{wires_of}
 use Rattle.cdl_statements.specs.Stations.{InModel}
-use Rattle.cdl_expand.specs.Expanded.{HasUnits, IsExpanded, IsNetOfModel}
+use Rattle.cdl_expand.specs.Expanded.{IsExpanded, IsNetOfModel}
 use Rattle.cdl_expand.specs.inner.Numbered.{IsNumbered, at_numbers}
-use Rattle.cdl_expand.specs.inner.Ordered.{AreJoined, IsOrdered}
+use Rattle.cdl_expand.specs.inner.Ordered.{AreJoined, HaveUnits, IsOrdered}
 use Rattle.cdl_expand.proofs.Bounded.{instances_count, size_is, windows}
 use Rattle.cdl_expand.proofs.Composite.{composite, near}
 use Rattle.cdl_expand.proofs.Counted.{few_wires}
@@ -137,18 +137,19 @@ module _ (w : Model) (m : Walked) (raw : List RawWire) (o : IsOrdered w m) (j : 
   }
 
   -- the element of that number is fine
-  fine_element : (n : Net) (k : IsNumbered m raw n) (x : ℕ) → x < length n.elements → (y : Owned) × (element n x ≡ net_element (made_of w m raw o j) y) × IsFine y.point
-  fine_element n k x l =
+  fine_element : HaveUnits w → (n : Net) (k : IsNumbered m raw n) (x : ℕ) → x < length n.elements → (y : Owned) × (element n x ≡ net_element (made_of w m raw o j) y) × IsFine y.point
+  fine_element good n k x l =
       let y = element_at (made_of w m raw o j) n once (net_made n k) x l in
-      (y.0, y.2, unfolded_fine w (made_of w m raw o j) (parts_made w m raw o j) y.0 (in_slice (made_of w m raw o j).elements x y.0 y.1))
+      (y.0, y.2, unfolded_fine w good (made_of w m raw o j) (parts_made w m raw o j) y.0 (in_slice (made_of w m raw o j).elements x y.0 y.1))
 
-  pub plain_made : (n : Net) → IsNumbered m raw n → ArePlain n
-  plain_made n k = record { each = λ x l. let y = fine_element n k x l in ap (λ (z : NetElement). is_plain z.value_type) y.1 ∙ y.2.plain }
+  pub plain_made : HaveUnits w → (n : Net) → IsNumbered m raw n → ArePlain n
+  plain_made good n k = record { each = λ x l. let y = fine_element good n k x l in ap (λ (z : NetElement). is_plain z.value_type) y.1 ∙ y.2.plain }
 
-  pub units_made : (n : Net) → IsNumbered m raw n → HasUnits n
-  units_made n k = record {
-    short = λ x l. let y = fine_element n k x l in subst (λ (z : NetElement). length z.unit ≤ LONGEST_UNIT) (sym y.1) y.2.short;
-    real = λ x l e. let y = fine_element n k x l in ap (λ (z : NetElement). z.unit) y.1 ∙ y.2.real (sym (ap (λ (z : NetElement). is_real z.value_type) y.1) ∙ e);
+  pub units_made : HaveUnits w → (n : Net) → IsNumbered m raw n → AreUnits n
+  units_made good n k = record {
+    utf8 = λ x l. let y = fine_element good n k x l in subst (λ (z : NetElement). IsUtf8 z.unit) (sym y.1) y.2.text.0;
+    short = λ x l. let y = fine_element good n k x l in subst (λ (z : NetElement). length z.unit ≤ LONGEST_UNIT) (sym y.1) y.2.text.1;
+    real = λ x l e. let y = fine_element good n k x l in ap (λ (z : NetElement). z.unit) y.1 ∙ y.2.real (sym (ap (λ (z : NetElement). is_real z.value_type) y.1) ∙ e);
   }
 
   pub preorder_made : (n : Net) → IsNumbered m raw n → IsPreorder n
@@ -167,20 +168,29 @@ module _ (w : Model) (m : Walked) (raw : List RawWire) (o : IsOrdered w m) (j : 
   pub paths_made : NamesApart w → list_all formed_file w.files ≡ true → (n : Net) → IsNumbered m raw n → ArePaths n
   paths_made names formed n k = are_paths w names (λ c i x e. item_identifier w formed c i x e) o.fine (made_of w m raw o j) n (parts_made w m raw o j) once (net_made n k)
 
-  pub all_made : NamesApart w → list_all formed_file w.files ≡ true → (n : Net) → IsNumbered m raw n → IsNetOfModel w n
-  all_made names formed n k = record {
+  formed_made : NamesApart w → list_all formed_file w.files ≡ true → HaveUnits w → (n : Net) → IsNumbered m raw n → IsWellFormed n
+  formed_made names formed good n k =
+      let i = indexed_made names n k in
+      record {
+        numbers = i.numbers;
+        preorder = preorder_made n k;
+        windows = i.windows;
+        by_scope = by_scope_made n k;
+        near = near_made names n k;
+        composite = composite_made names n k;
+        plain = plain_made good n k;
+        units = units_made good n k;
+        limits = limits_made names n k;
+        kinds = kinds_made names n k;
+        paths = paths_made names formed n k;
+      }
+
+  pub all_made : NamesApart w → list_all formed_file w.files ≡ true → HaveUnits w → (n : Net) → IsNumbered m raw n → IsNetOfModel w n
+  all_made names formed good n k = record {
     expansion = made_of w m raw o j;
     expanded = expanded_made;
     unfolded = unfolded_made names;
     net = net_made n k;
     indexed = indexed_made names n k;
-    preorder = preorder_made n k;
-    limits = limits_made names n k;
-    by_scope = by_scope_made n k;
-    near = near_made names n k;
-    composite = composite_made names n k;
-    plain = plain_made n k;
-    units = units_made n k;
-    kinds = kinds_made names n k;
-    paths = paths_made names formed n k;
+    formed = formed_made names formed good n k;
   }

@@ -1,20 +1,19 @@
--- Elements are Boolean, Integer or Real; only Reals have units, and those are short.
-use Rattle.std.proofs.Common.{◌≡◌, ℕ, ◌≤◌, Bool, true, false, cond, List, [], ◌∷◌, ◌++◌, map, length, drop, Option, Some, None, Ok, Err, refl, sym, ap, ◌∙◌, subst, arith, inl, inr, if◌then◌else◌, codes}
-use Rattle.std.specs.Prelude.{◌&&◌, slice_get, option_and_then}
+-- Elements are Boolean, Integer or Real; only Reals have units, and those are short texts of UTF-8.
+use Rattle.std.proofs.Common.{◌≡◌, ℕ, ◌≤◌, Bool, true, false, cond, List, [], ◌∷◌, ◌++◌, map, length, Option, Some, None, Ok, Err, refl, sym, ap, ◌∙◌, subst, arith, inl, inr, if◌then◌else◌, codes, IsUtf8, All}
+use Rattle.std.specs.Prelude.{◌&&◌, IfOk, slice_get, option_and_then}
 use Rattle.std.specs.List.{list_all}
 use Rattle.std.specs.Str.{bytes_eq}
-use Rattle.std.proofs.lemmas.Bool.{leb-true, false≢true}
-use Rattle.cdl_source.specs.declared.limits.TheConstants.{LONGEST_UNIT, MOST_LINKS}
-use Rattle.cdl_source.specs.declared.rules.TheConstants.{UNIT_TOO_LONG}
+use Rattle.std.proofs.lemmas.List.Elements.{All-head, All-tail}
+use Rattle.std.proofs.lemmas.Str.{IsUtf8-nil}
+use Rattle.std.proofs.lemmas.Bool.{false≢true}
+use Rattle.cdl_source.specs.declared.limits.TheConstants.{LONGEST_UNIT}
 use Rattle.cdl_values.specs.declared.value.Array.{Array}
 use Rattle.cdl_values.specs.declared.value.Value.{Value}
 use Rattle.cdl_values.specs.declared.value.Value.TheVariants as value
 use Rattle.cdl_values.specs.declared.value.ValueType.{ValueType}
 use Rattle.cdl_values.specs.declared.value.ValueType.TheVariants as type
 use Rattle.cdl_values.specs.Values.{items_of}
-use Rattle.cdl_array.specs.Outcomes.{Outcome, then_to, holds_or}
-use Rattle.cdl_array.specs.Scalars.{scalar, scalar_of}
-use Rattle.cdl_array.specs.Types.{converted}
+use Rattle.cdl_array.specs.Outcomes.{Outcome, then_to}
 use Rattle.cdl_kinds.specs.declared.kind.Kind.{Kind}
 use Rattle.cdl_kinds.specs.declared.kind.Kind.TheVariants as kind
 use Rattle.cdl_kinds.specs.Names.{kinds, found}
@@ -36,14 +35,9 @@ use Rattle.cdl_classes.specs.declared.found.Found.TheVariants as it
 use Rattle.cdl_classes.specs.Found.{joined, connector_named, connector_at, or_kind, modelica_found, found_of}
 use Rattle.cdl_paths.specs.declared.path.Step.{Step}
 use Rattle.cdl_classes.specs.Rules.{class_of}
-use Rattle.cdl_paths.specs.Bindings.{Bound, by_text, by_kind, binding_of}
-use Rattle.cdl_paths.specs.HandOut.{indices_left, is_short, all_short, spread, spread_text, unit_part, units}
-use Rattle.cdl_paths.specs.Members.{item_at, site}
-use Rattle.cdl_worth.specs.Sizes.{gather}
-use Rattle.cdl_worth.specs.Units.{connector_sizes, own_left, through, unit_by}
-use Rattle.cdl_worth.specs.Units.{unit as unit_in}
-use Rattle.cdl_worth.specs.Values.{Link, StepSizes, the_class, link, outs, sizes, written}
-use Rattle.cdl_params.specs.Kept.{Model, classes}
+use Rattle.cdl_paths.specs.Members.{item_at}
+use Rattle.cdl_worth.specs.Texts.{HasUnits, IsUnit}
+use Rattle.cdl_params.specs.Kept.{Model}
 use Rattle.cdl_stations.specs.Keys.{Key, In as InKeys}
 use Rattle.cdl_items.specs.declared.role.Role.TheVariants as role
 use Rattle.cdl_walk.specs.declared.walked.Point.{Point}
@@ -55,6 +49,7 @@ use Rattle.cdl_walk.specs.Stations.{items_in, the_root}
 use Rattle.cdl_walk.specs.Worth.{dims, present, unit}
 use Rattle.cdl_model.specs.Parts.{Unfolding, AreParts, by_instance, own}
 use Rattle.cdl_model.proofs.Joined.{in_either, of_tabulate}
+use Rattle.cdl_expand.specs.inner.Ordered.{HaveUnits}
 use Rattle.cdl_expand.proofs.Ports.{sides}
 use Rattle.cdl_expand.proofs.Things.{Things, brings_elements, brought, each_thing}
 use Rattle.cdl_expand.proofs.Walking.{to_keys}
@@ -77,83 +72,57 @@ the_points xs ys e = cc
 abbrev pub IsShort : List ℕ → Type 0
 IsShort t = length t ≤ LONGEST_UNIT
 
--- each text of these values is short
-abbrev AreShort : List Value → Type 0
-AreShort us = (v : Value) → In v us → IsShort (text_of v)
+-- that is UTF-8
+abbrev pub IsUnitText : List ℕ → Type 0
+IsUnitText t = IsUtf8 t × IsShort t
 
-value_short : (v : Value) → is_short v ≡ true → IsShort (text_of v)
-unfolding is_short
-value_short (value.Str t) h = leb-true (length t) LONGEST_UNIT h
-value_short (value.Boolean b) h = omega arith
-value_short (value.Integer z) h = omega arith
-value_short (value.Real z) h = omega arith
-value_short (value.Enumeration c o) h = omega arith
+none_short : IsShort []
+none_short = omega arith
+
+no_unit : IsUnitText []
+no_unit = (IsUtf8-nil, none_short)
+
+unit_text : (v : Value) → IsUnit v → IsUnitText (text_of v)
+unit_text (value.Str t) h = h
+unit_text (value.Boolean b) h = no_unit
+unit_text (value.Integer z) h = no_unit
+unit_text (value.Real z) h = no_unit
+unit_text (value.Enumeration c o) h = no_unit
+
+unit_texts : (vs : List Value) → All IsUnit vs → (v : Value) → In v vs → IsUnitText (text_of v)
+unit_texts [] h v i = absurd i
+unit_texts (x ∷ xs) h v (inl e) = subst (λ (z : Value). IsUnitText (text_of z)) (sym e) (unit_text x (All-head IsUnit x xs h))
+unit_texts (x ∷ xs) h v (inr i) = unit_texts xs (All-tail IsUnit x xs h) v i
 
 both : (b c : Bool) → (b && c) ≡ true → (b ≡ true) × (c ≡ true)
 both true c h = (refl, h)
 both false c h = absurd (false≢true h)
-
-values_short : (vs : List Value) → list_all is_short vs ≡ true → AreShort vs
-values_short [] h v i = absurd i
-values_short (x ∷ xs) h v (inl e) = subst (λ (z : Value). IsShort (text_of z)) (sym e) (value_short x (both (is_short x) (list_all is_short xs) h).0)
-values_short (x ∷ xs) h v (inr i) = values_short xs (both (is_short x) (list_all is_short xs) h).1 v i
 
 module _ {A B : Type 0} where
   then_parts : (o : Outcome A) (f : A → Outcome B) (b : B) → then_to o f ≡ Ok b → (a : A) × (o ≡ Ok a) × (f a ≡ Ok b)
   then_parts (Ok a) f b h = (a, refl, h)
   then_parts (Err r) f b h = absurd (cc)
 
-held : (b : Bool) (r : ℕ) (x a : Array) → holds_or b r (Ok x) ≡ Ok a → (b ≡ true) × (x ≡ a)
-held true r x a h = (refl, cc)
-held false r x a h = absurd (cc)
-
--- what is handed out is short
-units_short : (wanted : List (Option ℕ)) (is shape : List ℕ) (g a : Array) → units wanted is shape g ≡ Ok a → AreShort a.items
-units_short wanted is shape g a h =
-    let x = then_parts (unit_part wanted is g (scalar_of g)) (spread_text shape) a h in
-    let y = then_parts (converted type.Str x.0) (λ t. then_to (spread shape t (scalar_of t)) all_short) a x.2 in
-    let z = then_parts (spread shape y.0 (scalar_of y.0)) all_short a y.2 in
-    let e = held (list_all is_short z.0.items) UNIT_TOO_LONG z.0 a z.2 in
-    subst (λ (u : Array). AreShort u.items) e.1 (values_short z.0.items e.0)
-
--- by what binds it
-bound_short : (ds : List Declared) (l : Link) (r : ℕ) (ss : StepSizes) (p : List Step) (n ns : List ℕ) (o : Option Bound) (a : Array) → unit_by ds l r ss p n ns o ≡ Ok a → AreShort a.items
-bound_short ds l r ss p n ns (Some (by_text g)) a h =
-    let x = then_parts (written ds l r ss p g) (λ b. then_to (gather (outs (through p n) (codes "unit") g) (drop g.steps ss)) (λ ws.
-    units (map Some (ws ++ own_left (outs (through p n) (codes "unit") g) ns)) (indices_left (outs (through p n) (codes "unit") g) (drop g.steps p)) ns b)) a h in
-    let y = then_parts (gather (outs (through p n) (codes "unit") g) (drop g.steps ss)) (λ ws.
-    units (map Some (ws ++ own_left (outs (through p n) (codes "unit") g) ns)) (indices_left (outs (through p n) (codes "unit") g) (drop g.steps p)) ns x.0) a x.2 in
-    units_short (map Some (y.0 ++ own_left (outs (through p n) (codes "unit") g) ns)) (indices_left (outs (through p n) (codes "unit") g) (drop g.steps p)) ns x.0 a y.2
-bound_short ds l r ss p n ns (Some (by_kind q)) a h = units_short [] [] ns (scalar (value.Str [])) a h
-bound_short ds l r ss p n ns None a h = units_short [] [] ns (scalar (value.Str [])) a h
-
-unit_short : (ds : List Declared) (d r : ℕ) (p : List Step) (n : List ℕ) (a : Array) → unit_in ds d r p n ≡ Ok a → AreShort a.items
-unfolding unit_in
-unit_short ds d r p n a h =
-    let x = then_parts (connector_sizes ds (link ds d) r (sizes ds r p) p n (site ds (the_class r) p)) (λ ns.
-    unit_by ds (link ds d) r (sizes ds r p) p n ns (binding_of ds (the_class r) 0 (through p n) (codes "unit"))) a h in
-    bound_short ds (link ds d) r (sizes ds r p) p n x.0 (binding_of ds (the_class r) 0 (through p n) (codes "unit")) a x.2
-
--- the units of the elements of a type: short, and none where it isn't Real
+-- the units of the elements of a type: texts of units, and none where it isn't Real
 pub record AreUnitsOf (t : ValueType) (us : List Value) : Type 0 where
   pub real : is_real t ≡ false → us ≡ []
-  pub short : (v : Value) → In v us → IsShort (text_of v)
+  pub text : (v : Value) → In v us → IsUnitText (text_of v)
 
 no_units : (t : ValueType) (us : List Value) → [] ≡ us → AreUnitsOf t us
-no_units t us e = record { real = λ h. sym e; short = λ v i. absurd (subst (λ (l : List Value). In v l) (sym e) i) }
+no_units t us e = record { real = λ h. sym e; text = λ v i. absurd (subst (λ (l : List Value). In v l) (sym e) i) }
 
-units_chosen : (w : Model) (p : List Step) (x : List ℕ) (t : ValueType) (b : Bool) (us : List Value) → is_real t ≡ b → cond b (then_to (unit w p x) items_in) (Ok []) ≡ Ok us → AreUnitsOf t us
-units_chosen w p x t true us e h =
+units_chosen : (w : Model) (good : HaveUnits w) (p : List Step) (x : List ℕ) (t : ValueType) (b : Bool) (us : List Value) → is_real t ≡ b → cond b (then_to (unit w p x) items_in) (Ok []) ≡ Ok us → AreUnitsOf t us
+units_chosen w good p x t true us e h =
     let a = then_parts (unit w p x) items_in us h in
     let same : a.0.items ≡ us = the_items a.0.items us a.2 in
     record {
       real = λ f. absurd (false≢true (sym f ∙ e));
-      short = λ v i. unit_short (classes w) MOST_LINKS w.root p x a.0 a.1 v (subst (λ (l : List Value). In v l) (sym same) i);
+      text = λ v i. unit_texts a.0.items (subst (λ (o : Outcome Array). IfOk o HasUnits) a.1 (good p x)) v (subst (λ (l : List Value). In v l) (sym same) i);
     }
-units_chosen w p x t false us e h = no_units t us (the_items [] us h)
+units_chosen w good p x t false us e h = no_units t us (the_items [] us h)
 
-pub units_of : (w : Model) (p : List Step) (x : List ℕ) (t : ValueType) (us : List Value) → plain_units w p x t ≡ Ok us → AreUnitsOf t us
-units_of w p x t us h = units_chosen w p x t (is_real t) us refl h
+pub units_of : (w : Model) (good : HaveUnits w) (p : List Step) (x : List ℕ) (t : ValueType) (us : List Value) → plain_units w p x t ≡ Ok us → AreUnitsOf t us
+units_of w good p x t us h = units_chosen w good p x t (is_real t) us refl h
 
 -- ---- types
 
@@ -258,17 +227,17 @@ groups_plain k = refl
 
 -- ---- what stands in a model
 
--- an element is of a plain type; its unit is short, and empty where it isn't Real
+-- an element is of a plain type; its unit is a text of one, and empty where it isn't Real
 pub record IsFine (x : Point) : Type 0 where
   pub plain : is_plain x.value_type ≡ true
-  pub short : IsShort x.unit
+  pub text : IsUnitText x.unit
   pub real : is_real_in x.value_type ≡ false → x.unit ≡ []
 
 abbrev pub AreFine : List Point → Type 0
 AreFine ps = (x : Point) → In x ps → IsFine x
 
-unit_small : (us : List Value) (o : Option Value) → ((v : Value) → o ≡ Some v → IsShort (text_of v)) → IsShort (text_in o)
-unit_small us None f = omega arith
+unit_small : (us : List Value) (o : Option Value) → ((v : Value) → o ≡ Some v → IsUnitText (text_of v)) → IsUnitText (text_in o)
+unit_small us None f = no_unit
 unit_small us (Some v) f = f v refl
 
 real_same : (t : ValueType) → is_real_in t ≡ false → is_real t ≡ false
@@ -287,23 +256,23 @@ points_fine name t input ns us p u x i =
     let z = of_tabulate (λ (y : Point). y) (items_of ns) (point_at name t input ns us) x (subst (λ (l : List Point). In x l) (sym (map_id (points name t input ns us))) i) in
     subst (λ (y : Point). IsFine y) (sym z.2) (record {
       plain = p;
-      short = unit_small us (slice_get us z.0) (λ v e. u.short v (in_slice us z.0 v e));
+      text = unit_small us (slice_get us z.0) (λ v e. u.text v (in_slice us z.0 v e));
       real = λ e. ap (λ (l : List Value). unit_at l z.0) (u.real (real_same t e));
     })
 
 both_fine : (ps qs : List Point) → AreFine ps → AreFine qs → AreFine (ps ++ qs)
 both_fine ps qs f g x i = elim (in_either x ps qs i) as (λ _. IsFine x) [ inl a ↦ f x a | inr b ↦ g x b ]
 
-ports_fine : (w : Model) (p : List Step) (n : ℕ) (input : Bool) (gs : List Group) (ps : List Point) → list_all (λ (g : Group). is_plain g.value_type) gs ≡ true → ports_from w p n input gs ≡ Ok ps → AreFine ps
-ports_fine w p n input [] ps f e = λ x i. absurd (subst (λ (l : List Point). In x l) (sym (the_points [] ps e)) i)
-ports_fine w p n input (g ∷ gs) ps f e =
+ports_fine : (w : Model) (good : HaveUnits w) (p : List Step) (n : ℕ) (input : Bool) (gs : List Group) (ps : List Point) → list_all (λ (g : Group). is_plain g.value_type) gs ≡ true → ports_from w p n input gs ≡ Ok ps → AreFine ps
+ports_fine w good p n input [] ps f e = λ x i. absurd (subst (λ (l : List Point). In x l) (sym (the_points [] ps e)) i)
+ports_fine w good p n input (g ∷ gs) ps f e =
     let a = then_parts (plain_units w p g.name g.value_type) (λ us. then_to (ports_from w p n input gs) (λ more. Ok (points g.name g.value_type input (port_sizes n g) us ++ more))) ps e in
     let b = then_parts (ports_from w p n input gs) (λ more. Ok (points g.name g.value_type input (port_sizes n g) a.0 ++ more)) ps a.2 in
     let t = both (is_plain g.value_type) (list_all (λ (h : Group). is_plain h.value_type) gs) f in
     subst (λ (l : List Point). AreFine l) (the_points (points g.name g.value_type input (port_sizes n g) a.0 ++ b.0) ps b.2)
     (both_fine (points g.name g.value_type input (port_sizes n g) a.0) b.0
-    (points_fine g.name g.value_type input (port_sizes n g) a.0 t.0 (units_of w p g.name g.value_type a.0 a.1))
-    (ports_fine w p n input gs b.0 t.1 b.1))
+    (points_fine g.name g.value_type input (port_sizes n g) a.0 t.0 (units_of w good p g.name g.value_type a.0 a.1))
+    (ports_fine w good p n input gs b.0 t.1 b.1))
 
 list_both : {A : Type 0} (f : A → Bool) (xs ys : List A) → list_all f (xs ++ ys) ≡ true → (list_all f xs ≡ true) × (list_all f ys ≡ true)
 list_both f [] ys h = (refl, h)
@@ -312,12 +281,12 @@ list_both f (x ∷ xs) ys h =
     let b = list_both f xs ys a.1 in
     (ap (λ t. t && list_all f xs) a.0 ∙ b.0, b.1)
 
-kind_fine : (w : Model) (p : List Step) (k : Kind) (v : List Array) (ps : List Point) → ports_of w p k v ≡ Ok ps → AreFine ps
-kind_fine w p k v ps e =
+kind_fine : (w : Model) (good : HaveUnits w) (p : List Step) (k : Kind) (v : List Array) (ps : List Point) → ports_of w p k v ≡ Ok ps → AreFine ps
+kind_fine w good p k v ps e =
     let z = sides (ports_from w p (nin_or_nout v) true (row k).ins) (ports_from w p (nin_or_nout v) false (row k).outs) ps e in
     let g = list_both (λ (h : Group). is_plain h.value_type) (row k).ins (row k).outs (groups_plain k) in
     subst (λ (l : List Point). AreFine l) z.4
-    (both_fine z.0 z.1 (ports_fine w p (nin_or_nout v) true (row k).ins z.0 g.0 z.2) (ports_fine w p (nin_or_nout v) false (row k).outs z.1 g.1 z.3))
+    (both_fine z.0 z.1 (ports_fine w good p (nin_or_nout v) true (row k).ins z.0 g.0 z.2) (ports_fine w good p (nin_or_nout v) false (row k).outs z.1 g.1 z.3))
 
 -- a connector that isn't there has no elements, another one has those of its sizes
 connector_fine : (w : Model) (p : List Step) (item : Item) (t : ValueType) (input : Bool) (o : Outcome Bool) (z : Outcome (List ℕ)) (y : Outcome (List Value)) (ps : List Point) → is_plain t ≡ true
@@ -335,12 +304,12 @@ points_from (Block p c) = []
 points_from (Elementary p k v ps) = ps
 points_from (Elements p ps) = ps
 
-fine_thing : (w : Model) (k : Key) (p : List Step) (c : ClassId) (t : Thing) → IsThing w p c k t → AreFine (points_from t)
-fine_thing w = each_thing w (λ t. AreFine (points_from t)) (λ p c x i. absurd i) (λ p k v ps e f. kind_fine w p k v ps f) (λ p c i t a.
+fine_thing : (w : Model) (good : HaveUnits w) (k : Key) (p : List Step) (c : ClassId) (t : Thing) → IsThing w p c k t → AreFine (points_from t)
+fine_thing w good = each_thing w (λ t. AreFine (points_from t)) (λ p c x i. absurd i) (λ p k v ps e f. kind_fine w good p k v ps f) (λ p c i t a.
     let z = brings_elements w p c i t a in
     subst (λ (y : Thing). AreFine (points_from y)) (sym z.2)
     (connector_fine w p a.item a.value_type a.input (present w p a.item) (dims w p a.item) (plain_units w p (item_name a.item) a.value_type) z.0
-    (connector_type (declared w.files) c.index i a.item a.value_type a.input a.role_is) (λ us h. units_of w p (item_name a.item) a.value_type us h) z.1))
+    (connector_type (declared w.files) c.index i a.item a.value_type a.input a.role_is) (λ us h. units_of w good p (item_name a.item) a.value_type us h) z.1))
 
 owned_point : (p : List Step) (ps : List Point) (x : Owned) → InKeys x (map (owned_by p) ps) → In x.point ps
 owned_point p [] x i = absurd i
@@ -353,8 +322,8 @@ from_point (Elementary p k v ps) x i = owned_point p ps x i
 from_point (Elements p ps) x i = owned_point p ps x i
 
 -- each element of a model is fine
-pub all_fine : (w : Model) (xs : Things) → ((k : Key) (t : Thing) → InKeys {X = Key × Thing} (k, t) xs → IsThing w [] (the_root w) k t) → (x : Owned) → InKeys x (elements_in xs) → IsFine x.point
-all_fine w xs f x i = let b = brought x xs i in fine_thing w b.0 [] (the_root w) b.1 (f b.0 b.1 b.2) x.point (from_point b.1 x b.3)
+pub all_fine : (w : Model) (good : HaveUnits w) (xs : Things) → ((k : Key) (t : Thing) → InKeys {X = Key × Thing} (k, t) xs → IsThing w [] (the_root w) k t) → (x : Owned) → InKeys x (elements_in xs) → IsFine x.point
+all_fine w good xs f x i = let b = brought x xs i in fine_thing w good b.0 [] (the_root w) b.1 (f b.0 b.1 b.2) x.point (from_point b.1 x b.3)
 
 -- ---- by instance
 
@@ -365,7 +334,7 @@ in_grouped (s ∷ ss) os x i = elim (in_either x (own os s.path) (by_instance ss
   | inr b ↦ in_grouped ss os x b
 ]
 
-pub unfolded_fine : (w : Model) (u : Unfolding) → AreParts w u → (x : Owned) → In x u.elements → IsFine x.point
-unfolded_fine w u r x i =
+pub unfolded_fine : (w : Model) (good : HaveUnits w) (u : Unfolding) → AreParts w u → (x : Owned) → In x u.elements → IsFine x.point
+unfolded_fine w good u r x i =
     let there : In x (by_instance (instances_in r.things) (elements_in r.things)) = subst (λ (l : List Owned). In x l) r.elements i in
-    all_fine w r.things r.lists.only x (to_keys x (elements_in r.things) (in_grouped (instances_in r.things) (elements_in r.things) x there))
+    all_fine w good r.things r.lists.only x (to_keys x (elements_in r.things) (in_grouped (instances_in r.things) (elements_in r.things) x there))

@@ -1,11 +1,8 @@
 -- A model expanded: its instances, elements and wires, and its net; or the rule of instances or statements that it breaks first.
-use Rattle.std.specs.Prelude.{ℕ, ◌<◌, ◌≤◌, ◌≡◌, false, List, [], map, length}
-use Rattle.cdl_source.specs.declared.limits.TheConstants.{LONGEST_UNIT}
+use Rattle.std.specs.Prelude.{ℕ, ◌≡◌, List, [], map}
 use Rattle.cdl_source.specs.declared.place.Place.{Place}
 use Rattle.cdl_connect.specs.declared.net.Net.{Net}
-use Rattle.cdl_connect.specs.Nets.{element}
-use Rattle.cdl_connect.specs.WellFormed.{AreByScope, AreComposite, AreNear, AreOfKinds, ArePaths, ArePlain, IsIndexed, IsPreorder, IsWithinLimits}
-use Rattle.cdl_network.specs.Rules.{is_real}
+use Rattle.cdl_connect.specs.WellFormed.{IsIndexed, IsWellFormed}
 use Rattle.cdl_params.specs.Kept.{Model}
 use Rattle.cdl_paths.specs.declared.path.Step.{Step}
 use Rattle.cdl_stations.specs.FirstBroken.{First, IsBroken, NoneBroken}
@@ -62,27 +59,14 @@ pub record IsExpanded (w : Model) (u : Unfolding) : Type 0 where
   pub statements : NoneBroken (IsBroken event.Bad (statement.InModel w instances))
   pub wires : AreAllWires (statement.InModel w instances) u.wires
 
--- a unit has at most 64 bytes, and is empty where the element isn't Real
-pub record HasUnits (n : Net) : Type 0 where
-  pub short : (x : ℕ) → x < length n.elements → length (element n x).unit ≤ LONGEST_UNIT
-  pub real : (x : ℕ) → x < length n.elements → is_real (element n x).value_type ≡ false → (element n x).unit ≡ []
-
--- The net is that of the model, which breaks no rule of instances or statements. Of what makes a net well formed it has these.
+-- The net is that of the model, which breaks no rule of instances or statements, and it is well formed.
 pub record IsNetOfModel (w : Model) (n : Net) : Type 0 where
   pub expansion : Unfolding
   pub expanded : IsExpanded w expansion
   pub unfolded : IsUnfolded w expansion
   pub net : NetOf expansion n
   pub indexed : IsIndexed n
-  pub preorder : IsPreorder n
-  pub limits : IsWithinLimits n
-  pub by_scope : AreByScope n
-  pub near : AreNear n
-  pub composite : AreComposite n
-  pub plain : ArePlain n
-  pub units : HasUnits n
-  pub kinds : AreOfKinds n
-  pub paths : ArePaths n
+  pub formed : IsWellFormed n
 
 -- The fault is the first broken rule; want of memory is free.
 abbrev pub Refuses : Model → ExpandFault → Type 0

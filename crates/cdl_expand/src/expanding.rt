@@ -1,5 +1,5 @@
 // The net of a model.
-ghost use Rattle.std.specs.Prelude.{◌≡◌, ◌≤◌, true, length, List, Err, IfErr, IfOk, IsTrue};
+ghost use Rattle.std.specs.Prelude.{◌≡◌, true, List, Err, IfErr, IfOk};
 ghost use Rattle.std.specs.List.{list_all};
 ghost use Rattle.cdl_tree.specs.FormedFiles.{formed_file};
 ghost use Rattle.cdl_params.specs.Kept.{Model};
@@ -10,24 +10,29 @@ ghost use Rattle.cdl_model.specs.Apart.{NamesApart};
 ghost use Rattle.cdl_statements.specs.Judges.{Judges};
 ghost use Rattle.cdl_statements.specs.Stations as statement;
 ghost use Rattle.cdl_expand.specs.Expanded.{AreInstances, HasInstances, IsNetOfModel, Refuses};
-ghost use Rattle.cdl_expand.specs.inner.Ordered.{AreJoined, IsOrdered};
+ghost use Rattle.cdl_expand.specs.inner.Ordered.{AreJoined, HaveUnits, IsOrdered};
 
 use crate::fault::ExpandFault;
 use crate::parts::numbered_net;
+use cdl_classes::declared_classes_are_formed;
 use cdl_connect::{Net, RawWire};
 use cdl_model::{declared_names_are_apart, parts_are_one};
 use cdl_params::Elaborator;
-use cdl_source::{List, MOST_ELEMENTS, MOST_INSTANCES};
+use cdl_source::List;
 use cdl_statements::{StatementFault, statements};
 use cdl_walk::{WalkFault, Walked, by_instance, path_text, walk};
+use cdl_worth::texts_are_utf8;
 use std::alloc::Global;
 
-// The files of the table are formed and keep the rules on classes; so no name is declared twice in a class.
+// The files of the table are formed and keep the rules on classes; so no name is declared twice in a class, and units are texts.
 fn classes_are_kept(e: &Elaborator<'_>)
     ensures names { NamesApart e.now }
     ensures formed { list_all formed_file e.now.files ≡ true }
+    ensures units { HaveUnits e.now }
 {
     declared_names_are_apart();
+    declared_classes_are_formed();
+    texts_are_utf8();
     let _classes = e.table().len();
 }
 
@@ -59,15 +64,6 @@ fn statement_refusal(alloc: Global, fault: StatementFault) -> ExpandFault
     }
 }
 
-// Whether the lists are within their limits. They are, since C20 counts both.
-fn are_few(walked: &Walked) -> bool
-    ensures instances { IsTrue result → length walked.now.instances ≤ MOST_INSTANCES }
-    ensures elements { IsTrue result → length walked.now.elements ≤ MOST_ELEMENTS }
-{
-    walked.instances.items().len() <= MOST_INSTANCES as usize
-        && walked.elements.items().len() <= MOST_ELEMENTS as usize
-}
-
 // What the walk finds, with the elements by instance.
 fn walk_in_order(alloc: Global, e: &mut Elaborator<'_>) -> Result<Walked, ExpandFault>
     ensures kept { e.new ≡ e.old }
@@ -78,9 +74,6 @@ fn walk_in_order(alloc: Global, e: &mut Elaborator<'_>) -> Result<Walked, Expand
         Ok(walked) => walked,
         Err(fault) => return Err(instance_refusal(alloc, fault)),
     };
-    if !are_few(&walked) {
-        return Err(ExpandFault::OutOfMemory);
-    }
     let elements = by_instance(walked.elements)?;
     Ok(Walked {
         instances: walked.instances,

@@ -14,7 +14,7 @@ returns-clause-net c =
     let j : AreJoined c.args.e.now c.in_ok-walked.walked c.in_ok-wires.wires = subst (λ (w : Model). AreJoined w c.in_ok-walked.walked c.in_ok-wires.wires) c.walk_in_order.ensures.kept c.in_ok-wires.ensures.joined in
     all_made c.args.e.now c.in_ok-walked.walked c.in_ok-wires.wires o j
     (c.parts_are_one.ensures.once c.args.e.now (made_of c.args.e.now c.in_ok-walked.walked c.in_ok-wires.wires o j) c.classes_are_kept.ensures.names (parts_made c.args.e.now c.in_ok-walked.walked c.in_ok-wires.wires o j))
-    c.classes_are_kept.ensures.names c.classes_are_kept.ensures.formed c.in_ok-net.net c.in_ok-net.ensures
+    c.classes_are_kept.ensures.names c.classes_are_kept.ensures.formed c.classes_are_kept.ensures.units c.in_ok-net.net c.in_ok-net.ensures
 
 pub returns-in_err-wires-clause-refused : goal.returns-in_err-wires-clause-refused
 returns-in_err-wires-clause-refused c =

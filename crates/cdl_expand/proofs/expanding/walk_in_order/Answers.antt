@@ -12,8 +12,8 @@ returns-clause-ordered c = record {
   instances = refl;
   sorted = c.in_ok-elements.ensures.sorted;
   stable = c.in_ok-elements.ensures.stable;
-  few_instances = c.are_few.ensures.instances c.if-not-are_few.false;
-  few_elements = subst (λ n. n ≤ MOST_ELEMENTS) (sym (length_permutation c.in-Ok.walked.elements c.in_ok-elements.elements c.in_ok-elements.ensures.permutation)) (c.are_few.ensures.elements c.if-not-are_few.false);
+  few_instances = c.in-Ok.ensures.few.0;
+  few_elements = subst (λ n. n ≤ MOST_ELEMENTS) (sym (length_permutation c.in-Ok.walked.elements c.in_ok-elements.elements c.in_ok-elements.ensures.permutation)) c.in-Ok.ensures.few.1;
 }
 
 pub returns-in-Err-clause-refused : goal.returns-in-Err-clause-refused
