@@ -17,16 +17,16 @@ use Rattle.cdl_model.specs.Apart.{IsNear}
 use Rattle.cdl_model.specs.Names.{ElementName}
 use Rattle.cdl_model.specs.Networks.{parent_path}
 use Rattle.cdl_model.proofs.Joined.{in_either}
-use Rattle.cdl_statements.specs.declared.sides.Owners.{Owners}
-use Rattle.cdl_statements.specs.declared.sides.Piece.{Piece}
-use Rattle.cdl_statements.specs.declared.sides.Side.{Side}
-use Rattle.cdl_statements.specs.declared.verdicts.Verdict.{Verdict}
-use Rattle.cdl_statements.specs.declared.verdicts.Verdict.TheVariants.{Breaks, Dropped, Joins}
-use Rattle.cdl_statements.specs.Ends.{Component, End, connector_name, end_of}
-use Rattle.cdl_statements.specs.Integers.{integer}
-use Rattle.cdl_statements.specs.Picks.{picks, indices}
-use Rattle.cdl_statements.specs.Sides.{path_of, element_path, elements_of, itself, owners, piece_of, piece, pieces, side_of, side, sizes, sizes_in, fit, stands, all_have, element, piece_elements, all_elements, elements}
-use Rattle.cdl_statements.specs.Verdicts.{joined, with_connectors, with_owners, with_components, with_ends, verdict}
+use Rattle.cdl_joins.specs.declared.sides.Owners.{Owners}
+use Rattle.cdl_joins.specs.declared.sides.Piece.{Piece}
+use Rattle.cdl_joins.specs.declared.sides.Side.{Side}
+use Rattle.cdl_joins.specs.declared.verdicts.Verdict.{Verdict}
+use Rattle.cdl_joins.specs.declared.verdicts.Verdict.TheVariants.{Breaks, Dropped, Joins}
+use Rattle.cdl_joins.specs.Ends.{Component, End, connector_name, end_of}
+use Rattle.cdl_joins.specs.Integers.{integer}
+use Rattle.cdl_joins.specs.Picks.{picks, indices}
+use Rattle.cdl_joins.specs.Sides.{path_of, element_path, elements_of, itself, owners, piece_of, piece, pieces, side_of, side, sizes, sizes_in, fit, stands, all_have, element, piece_elements, all_elements, elements}
+use Rattle.cdl_joins.specs.Verdicts.{joined, with_connectors, with_owners, with_components, with_ends, verdict}
 use Rattle.cdl_expand.proofs.Things.{outer_push}
 
 -- ---- the elements of a side

@@ -20,12 +20,12 @@ use Rattle.cdl_model.specs.Names.{ElementName}
 use Rattle.cdl_statements.specs.Directory.{NamedWire}
 use Rattle.cdl_statements.specs.Events.{Event, pairs, brings, headed, wires_in, wires_of}
 use Rattle.cdl_statements.specs.Places.{Scope, Spot, spot, scope_of}
-use Rattle.cdl_statements.specs.Sides.{elements}
+use Rattle.cdl_joins.specs.Sides.{elements}
 use Rattle.cdl_statements.specs.Stations.{ForSome, ForTurn, InBody, InOpen, InContent, InInstance, InModel, statements_at}
-use Rattle.cdl_statements.specs.declared.verdicts.Verdict.{Verdict}
-use Rattle.cdl_statements.specs.declared.verdicts.Verdict.TheVariants.{Breaks, Dropped, Joins}
-use Rattle.cdl_statements.specs.declared.sides.Side.{Side}
-use Rattle.cdl_statements.specs.Verdicts.{verdict, bounds, with_local}
+use Rattle.cdl_joins.specs.declared.verdicts.Verdict.{Verdict}
+use Rattle.cdl_joins.specs.declared.verdicts.Verdict.TheVariants.{Breaks, Dropped, Joins}
+use Rattle.cdl_joins.specs.declared.sides.Side.{Side}
+use Rattle.cdl_joins.specs.Verdicts.{verdict, bounds, with_local}
 use Rattle.cdl_expand.proofs.Near.{AreNearTo, verdict_near}
 
 -- a wire of an instance at this path

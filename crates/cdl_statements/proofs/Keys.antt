@@ -17,7 +17,7 @@ use Rattle.cdl_walk.specs.Instances.{path_at}
 use Rattle.cdl_model.specs.Names.{ElementName}
 use Rattle.cdl_statements.specs.Complete.{Stands}
 use Rattle.cdl_statements.specs.Directory.{directory, name_in}
-use Rattle.cdl_statements.specs.Sides.{element}
+use Rattle.cdl_joins.specs.Sides.{element}
 use Rattle.cdl_statements.specs.inner.Keys.{Numbers, step_key, path_key, instance_key, owner_key, element_key, key_of_element, HasNumber, IsIndex, AreIndices}
 
 -- ---- lists of a known length

@@ -1,4 +1,3 @@
-pub mod Behind
 pub mod Steps
 pub mod Counts
 pub mod Keys
@@ -7,5 +6,4 @@ pub mod Reaching
 pub mod Standing
 pub mod Wires
 pub mod Numbers
-pub mod Rows
 pub mod Told

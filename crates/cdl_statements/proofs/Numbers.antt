@@ -3,9 +3,9 @@ use Rattle.std.proofs.Common.{◌≡◌, ◌<◌, ◌≤◌, ℕ, zero, suc, ◌
 use Rattle.std.specs.Prelude.{slice_get}
 use Rattle.std.proofs.lemmas.List.{append-nil, map-append}
 use Rattle.cdl_model.specs.Names.{ElementName}
-use Rattle.cdl_statements.specs.declared.sides.Piece.{Piece}
+use Rattle.cdl_joins.specs.declared.sides.Piece.{Piece}
 use Rattle.cdl_statements.specs.Complete.{Stands, AllStand}
-use Rattle.cdl_statements.specs.Sides.{piece_elements, all_elements}
+use Rattle.cdl_joins.specs.Sides.{piece_elements, all_elements}
 
 pub stand_row : (names : List ElementName) (f : List ℕ → ElementName) (rows : List (List ℕ)) (i : ℕ) (row : List ℕ) → AllStand names (map f rows) → i < length rows → row ≡ get_or rows i row → Stands names (f row)
 stand_row names f [] i row s h e = absurd (omega (arith, h))

@@ -11,8 +11,8 @@ use Rattle.cdl_values.specs.Values.{items_of}
 use Rattle.cdl_stations.specs.Keys.{In}
 use Rattle.cdl_stations.proofs.Grown.{in_either}
 use Rattle.cdl_walk.specs.Elements.{indices_at}
-use Rattle.cdl_statements.specs.declared.picks.Pick.{Pick}
-use Rattle.cdl_statements.specs.Picks.{whole, one, range, ranged, pick, pick_each, picks, count, behind, indices}
+use Rattle.cdl_joins.specs.declared.picks.Pick.{Pick}
+use Rattle.cdl_joins.specs.Picks.{whole, one, range, ranged, pick, pick_each, picks, count, behind, indices}
 
 -- these are indices in dimensions of these sizes
 abbrev pub Within : List ℕ → List ℕ → Type 0

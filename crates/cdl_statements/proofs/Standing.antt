@@ -54,9 +54,9 @@ use Rattle.cdl_walk.specs.Instances.{values}
 use Rattle.cdl_items.specs.Roles.{role_of}
 use Rattle.cdl_walk.specs.Worth.{value, present}
 use Rattle.cdl_source.specs.declared.rules.TheConstants.{SHAPES_DIFFER}
-use Rattle.cdl_statements.specs.declared.verdicts.Verdict.{Verdict}
-use Rattle.cdl_statements.specs.declared.verdicts.Verdict.TheVariants.{Breaks, Dropped, Joins}
-use Rattle.cdl_statements.specs.Verdicts.{joined, with_owners, with_components, with_ends}
+use Rattle.cdl_joins.specs.declared.verdicts.Verdict.{Verdict}
+use Rattle.cdl_joins.specs.declared.verdicts.Verdict.TheVariants.{Breaks, Dropped, Joins}
+use Rattle.cdl_joins.specs.Verdicts.{joined, with_owners, with_components, with_ends}
 use Rattle.cdl_statements.specs.Complete.{Stands, AllStand, IsUnfolded, JoinStanding, AllJoinStanding}
 use Rattle.cdl_statements.specs.Directory.{Directory, directory, name_in, path_in}
 use Rattle.cdl_statements.specs.inner.Seen.{IsInstance, IsListed}
@@ -67,14 +67,14 @@ use Rattle.cdl_paths.specs.declared.path.Path.{Path}
 use Rattle.cdl_model.specs.Names.{ElementName}
 use Rattle.cdl_walk.specs.Instances.{elements}
 use Rattle.cdl_walk.specs.Stations.{no_element}
-use Rattle.cdl_statements.specs.declared.sides.Owners.{Owners}
-use Rattle.cdl_statements.specs.declared.sides.Piece.{Piece}
-use Rattle.cdl_statements.specs.declared.sides.Side.{Side}
-use Rattle.cdl_statements.specs.Ends.{Connector, OfBlock, OfKind, Member, End, connector_name, member_at, member_named, connector_of, ports_named, connector_named, end_with, own_end, end_through, end_of}
-use Rattle.cdl_statements.specs.Integers.{integer}
-use Rattle.cdl_statements.specs.Picks.{picks, indices}
-use Rattle.cdl_statements.specs.Sides.{element, holds, is_there, sizes_in, count_in, count_by, one_size, sizes, has, stands, owners, itself, path_of, element_path, elements_of, elements_selected, all_have, fit, piece, piece_of, pieces, side, side_of, piece_elements, all_elements}
-use Rattle.cdl_statements.specs.Sides.{elements as elements_in_side}
+use Rattle.cdl_joins.specs.declared.sides.Owners.{Owners}
+use Rattle.cdl_joins.specs.declared.sides.Piece.{Piece}
+use Rattle.cdl_joins.specs.declared.sides.Side.{Side}
+use Rattle.cdl_joins.specs.Ends.{Connector, OfBlock, OfKind, Member, End, connector_name, member_at, member_named, connector_of, ports_named, connector_named, end_with, own_end, end_through, end_of}
+use Rattle.cdl_joins.specs.Integers.{integer}
+use Rattle.cdl_joins.specs.Picks.{picks, indices}
+use Rattle.cdl_joins.specs.Sides.{element, holds, is_there, sizes_in, count_in, count_by, one_size, sizes, has, stands, owners, itself, path_of, element_path, elements_of, elements_selected, all_have, fit, piece, piece_of, pieces, side, side_of, piece_elements, all_elements}
+use Rattle.cdl_joins.specs.Sides.{elements as elements_in_side}
 use Rattle.cdl_statements.proofs.Ranges.{Within, number_of, selected_within, both_hold, then_some, map_some}
 use Rattle.cdl_statements.proofs.Reaching.{Inner, Known, reach, connector_stands, ports_stand, inner_block, through}
 

@@ -24,7 +24,7 @@ use Rattle.cdl_statements.specs.Events.{Event, Made, step, occurrence, head}
 use Rattle.cdl_statements.specs.Places.{Scope, Fault, scope_of}
 use Rattle.cdl_statements.specs.Stations.{ForSome, ForTurn, InBody, InOpen, InStatement, InLoop, InTurn, InScope, InContent, InInstance, InModel, statements_at}
 use Rattle.cdl_statements.specs.Directory.{Directory}
-use Rattle.cdl_statements.specs.Verdicts.{bounds, turns, with_local}
+use Rattle.cdl_joins.specs.Verdicts.{bounds, turns, with_local}
 use Rattle.cdl_statements.specs.inner.Seen.{IsInstance, IsListed}
 
 abbrev Family : Type 1

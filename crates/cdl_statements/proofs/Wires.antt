@@ -11,10 +11,10 @@ use Rattle.cdl_model.specs.Names.{ElementName}
 use Rattle.cdl_statements.specs.declared.net.Net.{Net}
 use Rattle.cdl_statements.specs.Directory.{Directory, NamedWire, wire, wire_at, AreNumbers}
 use Rattle.cdl_statements.specs.Events.{Wires, pairs, step}
-use Rattle.cdl_statements.specs.declared.sides.Piece.{Piece}
-use Rattle.cdl_statements.specs.declared.sides.Side.{Side}
+use Rattle.cdl_joins.specs.declared.sides.Piece.{Piece}
+use Rattle.cdl_joins.specs.declared.sides.Side.{Side}
 use Rattle.cdl_statements.specs.Places.{Spot}
-use Rattle.cdl_statements.specs.Sides.{all_elements, elements}
+use Rattle.cdl_joins.specs.Sides.{all_elements, elements}
 use Rattle.cdl_statements.specs.inner.Seen.{made, raw, raw_pairs}
 
 pub raw_next : (s : ℕ) (ls rs : List ℕ) (i : ℕ) (d : ℕ) → i < length ls → i < length rs → raw_pairs s (drop i ls) (drop i rs) ≡ raw s (get_or ls i d) (get_or rs i d) ∷ raw_pairs s (drop (i + 1) ls) (drop (i + 1) rs)

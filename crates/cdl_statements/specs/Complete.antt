@@ -14,10 +14,10 @@ use Rattle.cdl_walk.specs.Events.{Fails}
 use Rattle.cdl_walk.specs.Instances.{AreAll}
 use Rattle.cdl_walk.specs.Stations.{InModel}
 use Rattle.cdl_model.specs.Names.{ElementName}
-use Rattle.cdl_statements.specs.declared.sides.Side.{Side}
-use Rattle.cdl_statements.specs.declared.verdicts.Verdict.TheVariants.{Joins}
-use Rattle.cdl_statements.specs.Sides.{elements}
-use Rattle.cdl_statements.specs.Verdicts.{verdict}
+use Rattle.cdl_joins.specs.declared.sides.Side.{Side}
+use Rattle.cdl_joins.specs.declared.verdicts.Verdict.TheVariants.{Joins}
+use Rattle.cdl_joins.specs.Sides.{elements}
+use Rattle.cdl_joins.specs.Verdicts.{verdict}
 
 -- the name has a number
 pub record Stands (names : List ElementName) (x : ElementName) : Type 0 where

@@ -11,10 +11,10 @@ use Rattle.cdl_stations.specs.Keys.{Key}
 use Rattle.cdl_model.specs.Names.{ElementName}
 use Rattle.cdl_statements.specs.Directory.{NamedWire, wire}
 use Rattle.cdl_statements.specs.Places.{Scope, Spot, spot, Fault}
-use Rattle.cdl_statements.specs.Sides.{elements}
-use Rattle.cdl_statements.specs.declared.verdicts.Verdict.{Verdict}
-use Rattle.cdl_statements.specs.declared.verdicts.Verdict.TheVariants.{Breaks, Dropped, Joins}
-use Rattle.cdl_statements.specs.Verdicts.{verdict, bounds, turns}
+use Rattle.cdl_joins.specs.Sides.{elements}
+use Rattle.cdl_joins.specs.declared.verdicts.Verdict.{Verdict}
+use Rattle.cdl_joins.specs.declared.verdicts.Verdict.TheVariants.{Breaks, Dropped, Joins}
+use Rattle.cdl_joins.specs.Verdicts.{verdict, bounds, turns}
 
 -- a rule that is broken; nothing; the turns of a head; the wires of an occurrence, in order
 pub data Event : Type 0 where

@@ -1,8 +1,3 @@
-pub mod Integers
-pub mod Ends
-pub mod Picks
-pub mod Sides
-pub mod Verdicts
 pub mod Places
 pub mod Directory
 pub mod Events

@@ -14,7 +14,7 @@ use Rattle.cdl_walk.specs.declared.walked.Content.TheVariants as content
 use Rattle.cdl_walk.specs.declared.walked.Instance.{Instance}
 use Rattle.cdl_statements.specs.Events.{Event, occurrence, head}
 use Rattle.cdl_statements.specs.Places.{Scope, scope_of}
-use Rattle.cdl_statements.specs.Verdicts.{bounds, turns, with_local}
+use Rattle.cdl_joins.specs.Verdicts.{bounds, turns, with_local}
 
 abbrev pub ForSome : {A : Type 0} → Option A → (A → Type 0) → Type 0
 ForSome None P = ⊥

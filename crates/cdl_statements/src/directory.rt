@@ -4,7 +4,7 @@ ghost use Rattle.cdl_scopes.specs.Entries.{entry};
 ghost use Rattle.cdl_walk.specs.Instances.{path_at as path_of};
 ghost use Rattle.cdl_statements.specs.Complete.{Stands};
 ghost use Rattle.cdl_statements.specs.Directory as spec;
-ghost use Rattle.cdl_statements.specs.Sides.{element};
+ghost use Rattle.cdl_joins.specs.Sides.{element};
 ghost use Rattle.cdl_statements.specs.inner.Keys as keys;
 ghost use Rattle.cdl_statements.specs.inner.Keys.{IsIndex};
 

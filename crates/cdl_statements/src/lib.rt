@@ -2,15 +2,9 @@
 #![tactic(auto)]
 
 mod directory;
-mod ends;
 mod fault;
-mod integers;
 mod net;
-mod paths;
-mod picks;
 mod running;
-mod sides;
-mod verdicts;
 
 pub use fault::StatementFault;
 pub use running::statements;

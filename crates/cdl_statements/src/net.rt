@@ -9,13 +9,13 @@ ghost use Rattle.cdl_statements.specs.Events.{step, pairs};
 ghost use Rattle.cdl_statements.specs.inner.Seen as seen_of;
 ghost use Rattle.cdl_statements.specs.inner.Seen.{made, scope_seen, seen};
 ghost use Rattle.cdl_statements.specs.Places.{spot};
-ghost use Rattle.cdl_statements.specs.Sides as sides;
+ghost use Rattle.cdl_joins.specs.Sides as sides;
 
 use crate::directory::Directory;
 use crate::fault::Broken;
-use crate::sides::{Piece, Side};
 use cdl_classes::ClassId;
 use cdl_connect::RawWire;
+use cdl_joins::{Piece, Side};
 use cdl_paths::Step;
 use cdl_source::rules::{TOO_MANY_TURNS, TOO_MANY_WIRES};
 use cdl_source::{List, MOST_TURNS, MOST_WIRES, OutOfMemory};

@@ -10,16 +10,14 @@ ghost use Rattle.cdl_statements.specs.inner.Seen.{IsInstance, IsListed, IsScope,
 ghost use Rattle.cdl_statements.specs.Judges.{Judges, StandForAll};
 ghost use Rattle.cdl_statements.specs.Places as place;
 ghost use Rattle.cdl_statements.specs.Stations as spec;
-ghost use Rattle.cdl_statements.specs.Verdicts.{bounds as bounds_of};
+ghost use Rattle.cdl_joins.specs.Verdicts.{bounds as bounds_of};
 
 use crate::directory::Directory;
 use crate::fault::{Broken, StatementFault};
 use crate::net::{Net, Scope, add_turns, add_wires, nothing};
-use crate::paths::path_of;
-use crate::picks::Site;
-use crate::verdicts::{Verdict, bounds, enter, judge, leave, turns, value_in};
 use cdl_classes::{ClassId, ClassTable};
 use cdl_connect::RawWire;
+use cdl_joins::{Site, Verdict, bounds, enter, judge, leave, path_of, turns, value_in};
 use cdl_params::Elaborator;
 use cdl_paths::{Local, Step};
 use cdl_source::rules::WRONG_SUBSCRIPT;

@@ -1,16 +1,10 @@
--- What contracts see of ends, scopes, states and faults.
-use Rattle.std.specs.Prelude.{ℕ, ◌≡◌, List, [], ◌∷◌, map, Option, Some, None, option_map, slice_get}
+-- What contracts see of scopes, states and faults.
+use Rattle.std.specs.Prelude.{ℕ, ◌≡◌, List, [], ◌∷◌, map, Option, Some, None, slice_get}
 use Rattle.cdl_classes.specs.declared.found.ClassId.{ClassId}
 use Rattle.cdl_connect.specs.declared.net.RawWire.{RawWire}
 use Rattle.cdl_paths.specs.declared.path.Step.{Step}
 use Rattle.cdl_walk.specs.declared.walked.Content.TheVariants as content
 use Rattle.cdl_walk.specs.declared.walked.Instance.{Instance}
-use Rattle.cdl_kinds.specs.Groups.{group_row}
-use Rattle.cdl_statements.specs.declared.ends.Component.{Component as DeclaredComponent}
-use Rattle.cdl_statements.specs.declared.ends.Connector.{Connector as DeclaredConnector}
-use Rattle.cdl_statements.specs.declared.ends.Connector.TheVariants as connector
-use Rattle.cdl_statements.specs.declared.ends.End.{End as DeclaredEnd}
-use Rattle.cdl_statements.specs.declared.ends.Member.{Member as DeclaredMember}
 use Rattle.cdl_statements.specs.declared.fault.Broken.{Broken}
 use Rattle.cdl_statements.specs.declared.fault.Broken.TheVariants as broken
 use Rattle.cdl_statements.specs.declared.fault.StatementFault.{StatementFault}
@@ -20,22 +14,8 @@ use Rattle.cdl_statements.specs.declared.net.Scope.{Scope as DeclaredScope}
 use Rattle.cdl_params.specs.Kept.{Model}
 use Rattle.cdl_statements.specs.Complete.{JoinStanding}
 use Rattle.cdl_statements.specs.Directory.{Directory, wire_at}
-use Rattle.cdl_statements.specs.Ends.{Connector, OfBlock, OfKind, Component, End, Member}
 use Rattle.cdl_statements.specs.Events.{Made}
 use Rattle.cdl_statements.specs.Places.{Scope, Fault, spot}
-
-abbrev pub connector_seen : DeclaredConnector → Connector
-connector_seen (connector.OfBlock item) = OfBlock item.now
-connector_seen (connector.OfKind k g) = OfKind k (group_row g)
-
-abbrev pub component_seen : DeclaredComponent → Component
-component_seen c = record { item = c.item.now; subs = c.subs.now }
-
-abbrev pub end_seen : DeclaredEnd → End
-end_seen e = record { component = option_map component_seen e.component; connector = connector_seen e.connector; subs = e.subs.now }
-
-abbrev pub member_seen : DeclaredMember → Member
-member_seen m = record { item = m.item.now; role = m.role }
 
 abbrev pub scope_seen : DeclaredScope → Scope
 scope_seen s = record { path = s.path.now; class = s.class; file = s.file }

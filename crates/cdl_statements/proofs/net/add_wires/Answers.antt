@@ -1,7 +1,7 @@
 use Rattle.std.proofs.Common.{rules, refl}
 use Rattle.cdl_statements.specs.Events.{pairs}
 use Rattle.cdl_statements.specs.Places.{spot}
-use Rattle.cdl_statements.specs.Sides.{elements}
+use Rattle.cdl_joins.specs.Sides.{elements}
 use Rattle.cdl_statements.specs.inner.Seen.{scope_seen}
 use Rattle.cdl_statements.proofs.Wires.{sides_joined, wires_fit, wires_past}
 use Rattle.cdl_statements.proofs.net.add_wires.Goals as goal

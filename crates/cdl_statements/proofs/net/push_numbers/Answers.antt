@@ -1,6 +1,6 @@
 use Rattle.std.proofs.Common.{ℕ, List, sym, subst}
 use Rattle.cdl_statements.specs.Complete.{Stands}
-use Rattle.cdl_statements.specs.Sides.{element}
+use Rattle.cdl_joins.specs.Sides.{element}
 use Rattle.cdl_statements.proofs.Numbers.{stand_row}
 use Rattle.cdl_statements.proofs.net.push_numbers.Goals as goal
 

@@ -1,6 +1,6 @@
 use Rattle.std.proofs.Common.{◌≡◌, ◌++◌, take, map, Some}
 use Rattle.std.specs.List.{slice_get}
-use Rattle.cdl_statements.specs.Sides as spec
+use Rattle.cdl_joins.specs.Sides as spec
 use Rattle.cdl_statements.proofs.net.push_numbers.Given as goal
 
 abbrev pub invariant-loop-i : goal.invariant-loop-i

@@ -1,7 +1,7 @@
 use Rattle.std.proofs.Common.{rules, arith, refl, ap, ◌∙◌, Ok, Err, w32}
 use Rattle.std.specs.Prelude.{ℤ}
 use Rattle.std.proofs.lemmas.Int.{to_z-of_z}
-use Rattle.cdl_statements.specs.Verdicts.{with_local}
+use Rattle.cdl_joins.specs.Verdicts.{with_local}
 use Rattle.cdl_statements.specs.inner.Seen.{made, scope_seen, seen}
 use Rattle.cdl_statements.proofs.Steps as at
 use Rattle.cdl_statements.proofs.running.+body.Goals as goal

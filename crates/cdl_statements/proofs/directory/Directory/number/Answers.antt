@@ -4,7 +4,7 @@ use Rattle.std.specs.Option.{option_copied}
 use Rattle.cdl_scopes.specs.Entries.{entry}
 use Rattle.cdl_statements.specs.Complete.{Stands}
 use Rattle.cdl_statements.specs.Directory.{Directory}
-use Rattle.cdl_statements.specs.Sides.{element}
+use Rattle.cdl_joins.specs.Sides.{element}
 use Rattle.cdl_statements.proofs.Keys.{number_is, has_number}
 use Rattle.cdl_statements.proofs.directory.Directory.number.Goals as goal
 

@@ -1,6 +1,0 @@
-use Rattle.std.proofs.Common.{◌≡◌, map}
-use Rattle.cdl_statements.specs.Sides as spec
-use Rattle.cdl_statements.proofs.sides.element_paths.Given as goal
-
-abbrev pub invariant-loop-indices : goal.invariant-loop-indices
-invariant-loop-indices l = l.paths ≡ map (spec.element_path l.path l.name) l.yielded
