@@ -4,6 +4,7 @@ pub mod ModelFacts
 mod FormedTrees
 pub mod ReadFacts
 pub mod TableFacts
+pub mod DocumentFacts
 pub mod NetFacts
 pub mod PlanFacts
 pub mod WorkFacts

@@ -13,12 +13,12 @@ use Rattle.cdl_network.specs.Dependence.{is_root_input}
 use Rattle.cdl_connect.specs.declared.net.Net.{Net}
 use Rattle.cdl_connect.specs.Nets.{element, network_of}
 use Rattle.cdl_connect.specs.Paths.{extended}
-use Rattle.cdl_connect.specs.WellFormed.{AreOfKinds, ArePlain, IsIndexed, path_of}
+use Rattle.cdl_connect.specs.WellFormed.{IsIndexed, IsWellFormed, path_of}
 use Rattle.cdl_paths.specs.declared.path.Step.{Step}
 use Rattle.cdl_params.specs.Kept.{Model}
 use Rattle.cdl_walk.specs.Texts.{path_text}
 use Rattle.cdl_model.specs.Names.{ElementName}
-use Rattle.cdl_model.specs.NetOf.{element_number, instance_number, name_text}
+use Rattle.cdl_model.specs.NetOf.{NetOf, element_number, instance_number, name_text}
 use Rattle.cdl_model.specs.Networks.{names, network, paths}
 use Rattle.cdl_model.specs.Parts.{Unfolding}
 use Rattle.cdl_expand.specs.Expanded.{IsExpanded, Refuses as ExpandRefuses}
@@ -77,22 +77,24 @@ pub record Along (u : Unfolding) (n : Net) : Type 0 where
   pub path : (p : List Step) → In p (paths u.instances) → path_of n (instance_number u.instances p) ≡ path_text p
   pub name : (x : ElementName) → In x (names u.elements) → (element n (element_number u.elements x)).name ≡ name_text x
 
-stands : (u : Unfolding) (n : Net) → Along u n → IsIndexed n → AreOfKinds n → ArePlain n → Accepted (network u) → StandsFor u n
-stands u n h i k p a =
+stands : (u : Unfolding) (n : Net) → NetOf u n → IsWellFormed n → Along u n → IsIndexed n → Accepted (network u) → StandsFor u n
+stands u n o f h i a =
     let number = instance_number u.instances in
     let other = element_number u.elements in
     record {
+      net = o;
+      formed = f;
       indexed = i;
-      kinds = k;
-      plain = p;
+      kinds = f.kinds;
+      plain = f.plain;
       inputs = inputs_under number other (labelled u) (net_labelled n) h.closed h.renamed h.name;
       ends = λ rows fault text e. ends_under number other (labelled u) (net_labelled n) rows fault text (sole (network u) h.closed h.shaped h.direct a)
           (record { closed = h.closed; renamed = h.renamed; path = h.path; name = h.name }) e;
     }
 
 -- The net of a model that breaks no rule.
-pub net_is : (w : Model) (u : Unfolding) (n : Net) → IsExpanded w u → Along u n → IsIndexed n → AreOfKinds n → ArePlain n → Accepted (network u) → IsNetOf w n
-net_is w u n x h i k p a = record { expansion = u; expanded = x; accepted = a; stands = stands u n h i k p a }
+pub net_is : (w : Model) (u : Unfolding) (n : Net) → IsExpanded w u → NetOf u n → IsWellFormed n → Along u n → IsIndexed n → Accepted (network u) → IsNetOf w n
+net_is w u n x o f h i a = record { expansion = u; expanded = x; accepted = a; stands = stands u n o f h i a }
 
 -- ---- one first broken rule
 

@@ -1,7 +1,8 @@
 -- The answer to a job over told contents is the only one.
-use Rattle.std.proofs.Common.{◌≡◌, ◌⊎◌, ◌∙◌, ℕ, ℤ, List, [], Option, None, Some, refl, sym, ap, subst, inl, inr}
+use Rattle.std.proofs.Common.{◌≡◌, ◌⊎◌, ◌∙◌, ◌≤◌, ◌<◌, ℕ, ℤ, List, [], length, arith, Option, None, Some, refl, sym, ap, subst, inl, inr}
 use Rattle.std.specs.Prelude.{MatchOption}
 use Rattle.cdl_source.specs.Outside as outside
+use Rattle.cdl_source.specs.declared.limits.TheConstants.{LONGEST_DOCUMENT}
 use Rattle.cdl_source.specs.declared.place.Place.{Place}
 use Rattle.cdl_source.specs.declared.rules.TheConstants.{NO_SUCH_BLOCK}
 use Rattle.cdl_tree.specs.declared.class.FileTree.{FileTree}
@@ -13,6 +14,11 @@ use Rattle.cdl_params.specs.Kept.{Model}
 use Rattle.cdl_paths.specs.declared.path.Step.{Step}
 use Rattle.cdl_walk.specs.Texts.{path_text}
 use Rattle.cdl_network.specs.FirstBroken.{Accepted}
+use Rattle.cdl_connect.specs.declared.net.Net.{Net}
+use Rattle.cdl_connect.specs.declared.net.NetElement.{NetElement}
+use Rattle.cdl_connect.specs.declared.net.NetInstance.{NetInstance}
+use Rattle.cdl_connect.specs.declared.net.RawWire.{RawWire}
+use Rattle.cdl_model.specs.NetOf.{NetOf}
 use Rattle.cdl_model.specs.Networks.{network}
 use Rattle.cdl_model.specs.Parts.{Unfolding}
 use Rattle.cdl_expand.specs.Expanded.{BreaksInstance, BreaksStatement, HasInstances, IsExpanded}
@@ -30,10 +36,11 @@ use Rattle.cdl_job.specs.declared.outcome.Spot.{Spot}
 use Rattle.cdl_job.specs.declared.outcome.Spot.TheVariants.{Source, Path, Statement}
 use Rattle.cdl_command.specs.Answer.{Answers, built, job_refused}
 use Rattle.cdl_command.specs.Breaks.{Breaks, class_rule, instance_rule, network_rule, no_block, root_path, spot_of, statement_rule, text_rule}
+use Rattle.cdl_command.specs.Documents.{IsDocument, document_text}
 use Rattle.cdl_command.specs.Sequences.{AllRead, IsAccepted, IsRead, Sequence, element_path, labelled}
 use Rattle.cdl_command.specs.Tables.{BreaksTable, HoldsRows, IsTableText}
 use Rattle.cdl_command.specs.Texts.{Holds}
-use Rattle.cdl_command.specs.Verdict.{Verdict, Work, broken, checked, outcome_of, ran, table_rule}
+use Rattle.cdl_command.specs.Verdict.{Ask, ForCheck, ForDocument, ForRun, Verdict, Work, broken, checked, documented, long_document, outcome_of, ran, table_rule}
 use Rattle.cdl_command.specs.inner.Plans.{model_of}
 use Rattle.cdl_command.proofs.NetFacts.{same_model}
 use Rattle.cdl_command.proofs.OneText.{BreaksAt, ParserLaws, broken_once, classes_once, not_read, not_unbroken, read_once}
@@ -185,8 +192,18 @@ no_breach r a u e = absurd (cc e)
 text_is : (o : Option (List ℕ)) (s t : List ℕ) → o ≡ Some s → o ≡ Some t → s ≡ t
 text_is o s t e f = cc
 
-no_text : (o : Option (List ℕ)) (s : List ℕ) → o ≡ None → o ≡ Some s → ⊥
-no_text o s e f = absurd (cc (e, f))
+-- no work asks for two things
+table_is : (a : Ask) (s t : List ℕ) → a ≡ ForRun s → a ≡ ForRun t → s ≡ t
+table_is a s t e f = cc
+
+no_table : (a : Ask) (s : List ℕ) → a ≡ ForCheck → a ≡ ForRun s → ⊥
+no_table a s e f = absurd (cc (e, f))
+
+no_document : (a : Ask) → a ≡ ForCheck → a ≡ ForDocument → ⊥
+no_document a e f = absurd (cc (e, f))
+
+no_run : (a : Ask) (s : List ℕ) → a ≡ ForDocument → a ≡ ForRun s → ⊥
+no_run a s e f = absurd (cc (e, f))
 
 refused_same : (r s : ℕ) (a b : Spot) → r ≡ s → a ≡ b → Refused r a ≡ Refused s b
 refused_same r s a b e f = ap (λ k. Refused k a) e ∙ ap (Refused s) f
@@ -206,13 +223,35 @@ once p k c work =
       accepted = λ u v x y. fine_is u v (check_once p k c s (Fine u) (Fine v) (of_accepted c s u x) (of_accepted c s v y));
     }
 
+-- ---- documents
+
+abbrev net_with : List NetInstance → List NetElement → List RawWire → Net
+net_with xs es ws = record { instances = xs; elements = es; wires = ws }
+
+-- a model has one net
+one_net : (u : Unfolding) (n m : Net) → NetOf u n → NetOf u m → n ≡ m
+one_net u n m a b =
+    ap (λ (xs : List NetInstance). net_with xs n.elements n.wires) (a.instances ∙ sym b.instances)
+    ∙ ap (λ (es : List NetElement). net_with m.instances es n.wires) (a.elements ∙ sym b.elements)
+    ∙ ap (net_with m.instances m.elements) (a.wires ∙ sym b.wires)
+
+-- so it has one document
+one_document : (u : Unfolding) (s t : List ℕ) → IsDocument u s → IsDocument u t → s ≡ t
+one_document u s t a b = a.text_is ∙ ap document_text (one_net u a.net b.net a.net_is b.net_is) ∙ sym b.text_is
+
+documents_once : (c : outside.Contents) (work : Work) (u v : Unfolding) (s t : List ℕ) → Once c work → IsAccepted (Some c) work.sequence u → IsAccepted (Some c) work.sequence v → IsDocument u s → IsDocument v t → s ≡ t
+documents_once c work u v s t o x y a b = one_document v s t (subst (λ w. IsDocument w s) (o.accepted u v x y) a) b
+
+longer : (s t : List ℕ) → s ≡ t → length s ≤ LONGEST_DOCUMENT → LONGEST_DOCUMENT < length t → ⊥
+longer s t e short long = let same : length s ≡ length t = ap length e in absurd (omega (arith, same, short, long))
+
 -- a table that breaks a rule
 record BadTable (c : outside.Contents) (work : Work) (r : ℕ) (a : Spot) : Type 0 where
   u : Unfolding
   table : List ℕ
   bytes : List ℕ
   accepted : IsAccepted (Some c) work.sequence u
-  is : work.table ≡ Some table
+  is : work.ask ≡ ForRun table
   holds : Holds (Some c) table bytes
   bad : BreaksTable (input_columns (labelled u)) bytes r a
 
@@ -222,13 +261,13 @@ record Ticks (c : outside.Contents) (work : Work) (fault : Option (ℤ × List �
   table : List ℕ
   rows : List TableRow
   accepted : IsAccepted (Some c) work.sequence u
-  is : work.table ≡ Some table
+  is : work.ask ≡ ForRun table
   held : HoldsRows (Some c) table (input_columns (labelled u)) rows
   ends : Ends (labelled u) rows fault text
 
-held_same : (c : outside.Contents) (work : Work) (table other bytes more : List ℕ) → work.table ≡ Some table → work.table ≡ Some other → Holds (Some c) table bytes → Holds (Some c) other more → bytes ≡ more
+held_same : (c : outside.Contents) (work : Work) (table other bytes more : List ℕ) → work.ask ≡ ForRun table → work.ask ≡ ForRun other → Holds (Some c) table bytes → Holds (Some c) other more → bytes ≡ more
 held_same c work table other bytes more e f h g =
-    let same : table ≡ other = text_is work.table table other e f in
+    let same : table ≡ other = table_is work.ask table other e f in
     text_is (c other) bytes more (subst (λ t. c t ≡ Some bytes) same h) g
 
 tables_once : (c : outside.Contents) (work : Work) (r s : ℕ) (a b : Spot) → Once c work → BadTable c work r a → BadTable c work s b → (r ≡ s) × (a ≡ b)
@@ -262,12 +301,32 @@ verdict_once c work o (broken {rule = r} {spot = a} x) (broken {rule = m} {spot 
 verdict_once c work o (broken {rule = r} {spot = a} x) (checked u y none) = absurd (o.apart r a u x y)
 verdict_once c work o (broken {rule = r} {spot = a} x) (table_rule u table bytes y is holds bad) = absurd (o.apart r a u x y)
 verdict_once c work o (broken {rule = r} {spot = a} x) (ran u table rows fault y is held ends end) = absurd (o.apart r a u x y)
+verdict_once c work o (broken {rule = r} {spot = a} x) (documented u y is d short) = absurd (o.apart r a u x y)
+verdict_once c work o (broken {rule = r} {spot = a} x) (long_document u text y is d long) = absurd (o.apart r a u x y)
+verdict_once c work o (documented u x is d short) (broken {rule = r} {spot = a} y) = absurd (o.apart r a u y x)
+verdict_once c work o (documented u x is d short) (checked v y none) = absurd (no_document work.ask none is)
+verdict_once c work o (documented {text = s} u x is d short) (documented {text = t} v y at e small) = (refl, documents_once c work u v s t o x y d e)
+verdict_once c work o (documented {text = s} u x is d short) (long_document v t y at e long) = absurd (longer s t (documents_once c work u v s t o x y d e) short long)
+verdict_once c work o (documented u x is d short) (table_rule v table bytes y at holds bad) = absurd (no_run work.ask table is at)
+verdict_once c work o (documented u x is d short) (ran v table rows fault y at held ends end) = absurd (no_run work.ask table is at)
+verdict_once c work o (long_document u s x is d long) (broken {rule = r} {spot = a} y) = absurd (o.apart r a u y x)
+verdict_once c work o (long_document u s x is d long) (checked v y none) = absurd (no_document work.ask none is)
+verdict_once c work o (long_document u s x is d long) (documented {text = t} v y at e short) = absurd (longer t s (documents_once c work v u t s o y x e d) short long)
+verdict_once c work o (long_document u s x is d long) (long_document v t y at e more) = (refl, refl)
+verdict_once c work o (long_document u s x is d long) (table_rule v table bytes y at holds bad) = absurd (no_run work.ask table is at)
+verdict_once c work o (long_document u s x is d long) (ran v table rows fault y at held ends end) = absurd (no_run work.ask table is at)
+verdict_once c work o (checked u x none) (documented v y is d short) = absurd (no_document work.ask none is)
+verdict_once c work o (checked u x none) (long_document v text y is d long) = absurd (no_document work.ask none is)
+verdict_once c work o (table_rule u table bytes x is holds bad) (documented v y at d short) = absurd (no_run work.ask table at is)
+verdict_once c work o (table_rule u table bytes x is holds bad) (long_document v text y at d long) = absurd (no_run work.ask table at is)
+verdict_once c work o (ran u table rows fault x is held ends end) (documented v y at d short) = absurd (no_run work.ask table at is)
+verdict_once c work o (ran u table rows fault x is held ends end) (long_document v text y at d long) = absurd (no_run work.ask table at is)
 verdict_once c work o (checked u x none) (broken {rule = r} {spot = a} y) = absurd (o.apart r a u y x)
 verdict_once c work o (checked u x none) (checked v y other) = (refl, refl)
-verdict_once c work o (checked u x none) (table_rule v table bytes y is holds bad) = absurd (no_text work.table table none is)
-verdict_once c work o (checked u x none) (ran v table rows fault y is held ends end) = absurd (no_text work.table table none is)
+verdict_once c work o (checked u x none) (table_rule v table bytes y is holds bad) = absurd (no_table work.ask table none is)
+verdict_once c work o (checked u x none) (ran v table rows fault y is held ends end) = absurd (no_table work.ask table none is)
 verdict_once c work o (table_rule u table bytes x is holds bad) (broken {rule = r} {spot = a} y) = absurd (o.apart r a u y x)
-verdict_once c work o (table_rule u table bytes x is holds bad) (checked v y none) = absurd (no_text work.table table none is)
+verdict_once c work o (table_rule u table bytes x is holds bad) (checked v y none) = absurd (no_table work.ask table none is)
 verdict_once c work o (table_rule {rule = r} {spot = a} u table bytes x is holds bad) (table_rule {rule = m} {spot = b} v other more y at there worse) =
     let e = tables_once c work r m a b o (record { u = u; table = table; bytes = bytes; accepted = x; is = is; holds = holds; bad = bad })
     (record { u = v; table = other; bytes = more; accepted = y; is = at; holds = there; bad = worse }) in
@@ -276,7 +335,7 @@ verdict_once c work o (table_rule {rule = r} {spot = a} u table bytes x is holds
     absurd (table_apart c work r a fault t o (record { u = u; table = table; bytes = bytes; accepted = x; is = is; holds = holds; bad = bad })
     (record { u = v; table = other; rows = rows; accepted = y; is = at; held = held; ends = ends }))
 verdict_once c work o (ran u table rows fault x is held ends end) (broken {rule = r} {spot = a} y) = absurd (o.apart r a u y x)
-verdict_once c work o (ran u table rows fault x is held ends end) (checked v y none) = absurd (no_text work.table table none is)
+verdict_once c work o (ran u table rows fault x is held ends end) (checked v y none) = absurd (no_table work.ask table none is)
 verdict_once c work o (ran {text = s} u table rows fault x is held ends end) (table_rule {rule = r} {spot = a} v other bytes y at holds bad) =
     absurd (table_apart c work r a fault s o (record { u = v; table = other; bytes = bytes; accepted = y; is = at; holds = holds; bad = bad })
     (record { u = u; table = table; rows = rows; accepted = x; is = is; held = held; ends = ends }))

@@ -5,6 +5,7 @@ use Rattle.cdl_source.specs.Causes.{Rose}
 use Rattle.cdl_source.specs.Outside.{written_after}
 use Rattle.cdl_source.specs.Whole.{WritesSome}
 use Rattle.cdl_connect.specs.declared.net.Net.{Net}
+use Rattle.cdl_model.specs.NetOf.{NetOf}
 use Rattle.cdl_model.specs.Parts.{Unfolding}
 use Rattle.cdl_table.specs.declared.column.Column.{Column}
 use Rattle.cdl_table.specs.TableRow.{TableRow}
@@ -19,11 +20,13 @@ use Rattle.cdl_job.specs.declared.outcome.Outcome.{Outcome}
 use Rattle.cdl_job.specs.declared.outcome.Outcome.TheVariants.{Done, Refused, ReadFault, WriteFault, OutOfMemory}
 use Rattle.cdl_job.specs.declared.outcome.Spot.{Spot}
 use Rattle.cdl_command.specs.Answer.{Answers, GrewBySome, IsAtSpot, built, job_refused}
+use Rattle.cdl_command.specs.Documents.{document_text}
 use Rattle.cdl_command.specs.Sequences.{Sequence, IsAccepted, labelled}
 use Rattle.cdl_command.specs.Tables.{HoldsRows, BreaksTable}
 use Rattle.cdl_command.specs.Texts.{Contents}
 use Rattle.cdl_command.specs.Top.{Works, BeginsInOrder}
-use Rattle.cdl_command.specs.Verdict.{Work, Verdict, InOrder, broken, checked, table_rule, ran, checked_text, models, the_table, all_models, outcome_of}
+use Rattle.cdl_command.specs.Verdict.{ForCheck, ForDocument, ForRun, Work, Verdict, InOrder, broken, checked, documented, long_document, table_rule, ran, checked_text, models, the_table, all_models, outcome_of}
+use Rattle.cdl_command.specs.inner.Documents.{HasText, RefusesDocument}
 use Rattle.cdl_command.specs.inner.Plans.{Halts, HasNet, Refuses}
 use Rattle.cdl_command.specs.inner.Reads.{RefusesTable}
 use Rattle.cdl_command.specs.inner.Stops.{FaultIsAnswered, Stops, end_of, ended_of, plain_end, stop_of}
@@ -90,27 +93,34 @@ pub no_memory : (task : Task) (contents : Contents) (work : Work) (n : Net) (bef
 no_memory task contents work n before now rr wr old w h begun =
     record { out = inl refl; at = tt; read = λ is. absurd (cc is); write = λ is. absurd (cc is); begun = models_begun task contents work n before now w h begun }
 
--- ---- a check
+-- ---- a text that is printed
 
-pub ok : (task : Task) (contents : Contents) (work : Work) (n : Net) (before now : ℕ) (rr wr : Type 0) (old new : Option (List ℕ)) → IsWork task work → work.table ≡ None → HasNet contents work.sequence n
-    → now ≡ before + length work.sequence.models → new ≡ written_after old checked_text → Works task contents before now rr wr (plain_end Done) old new
-ok task contents work n before now rr wr old new w none h begun wrote =
+pub check_done : (contents : Contents) (work : Work) (n : Net) → work.ask ≡ ForCheck → HasNet contents work.sequence n → Verdict contents work Done checked_text
+check_done contents work n is h = checked h.net_is.expansion (accepted contents work.sequence n h) is
+
+pub document_done : (contents : Contents) (work : Work) (n : Net) (text : List ℕ) → work.ask ≡ ForDocument → HasNet contents work.sequence n → HasText n text → Verdict contents work Done text
+document_done contents work n text is h t =
+    documented h.net_is.expansion (accepted contents work.sequence n h) is (record { net = n; net_is = h.net_is.stands.net; text_is = t.text_is }) t.short
+
+pub ok : (task : Task) (contents : Contents) (work : Work) (n : Net) (text : List ℕ) (before now : ℕ) (rr wr : Type 0) (old new : Option (List ℕ)) → IsWork task work → Verdict contents work Done text → HasNet contents work.sequence n
+    → now ≡ before + length work.sequence.models → new ≡ written_after old text → Works task contents before now rr wr (plain_end Done) old new
+ok task contents work n text before now rr wr old new w v h begun wrote =
     record {
-      out = (checked_text, answers task contents work Done checked_text w.is (checked h.net_is.expansion (accepted contents work.sequence n h) none), wrote);
+      out = (text, answers task contents work Done text w.is v, wrote);
       at = tt;
       read = λ is. absurd (cc is);
       write = λ is. absurd (cc is);
       begun = models_begun task contents work n before now w h begun;
     }
 
-pub not_ok : (task : Task) (contents : Contents) (work : Work) (n : Net) (before now : ℕ) (rr wr : Type 0) (old new : Option (List ℕ)) → IsWork task work → work.table ≡ None → HasNet contents work.sequence n
-    → now ≡ before + length work.sequence.models → WritesSome old new checked_text → wr → Works task contents before now rr wr (plain_end WriteFault) old new
-not_ok task contents work n before now rr wr old new w none h begun some rose =
+pub not_ok : (task : Task) (contents : Contents) (work : Work) (n : Net) (text : List ℕ) (before now : ℕ) (rr wr : Type 0) (old new : Option (List ℕ)) → IsWork task work → Verdict contents work Done text → HasNet contents work.sequence n
+    → now ≡ before + length work.sequence.models → WritesSome old new text → wr → Works task contents before now rr wr (plain_end WriteFault) old new
+not_ok task contents work n text before now rr wr old new w v h begun some rose =
     record {
       out = inr (record {
         outcome = Done;
-        text = checked_text;
-        answer = answers task contents work Done checked_text w.is (checked h.net_is.expansion (accepted contents work.sequence n h) none);
+        text = text;
+        answer = answers task contents work Done text w.is v;
         some = some;
       });
       at = tt;
@@ -118,6 +128,22 @@ not_ok task contents work n before now rr wr old new w none h begun some rose =
       write = λ is. rose;
       begun = models_begun task contents work n before now w h begun;
     }
+
+-- ---- a document that is too long
+
+refused_document : (contents : Contents) (work : Work) (u : Unfolding) (n : Net) → IsAccepted contents work.sequence u → work.ask ≡ ForDocument → NetOf u n → (r : Refusal)
+    → RefusesDocument n r → RefusesWork contents work r
+refused_document contents work u n a is net r h =
+    subst (RefusesWork contents work) (sym h.refusal_is) (
+      long_document u (document_text n) a is (record { net = n; net_is = net; text_is = refl }) h.long,
+      tt,
+    )
+
+pub at_document : (task : Task) (contents : Contents) (work : Work) (n : Net) (before now : ℕ) (rr wr : Type 0) (s : Stop) (old : Option (List ℕ)) → IsWork task work → work.ask ≡ ForDocument
+    → HasNet contents work.sequence n → now ≡ before + length work.sequence.models → Stops ⊥ (RefusesDocument n) s → Works task contents before now rr wr (end_of s) old old
+at_document task contents work n before now rr wr s old w is h begun cause =
+    stopped task contents work before now (length work.sequence.models) ⊥ rr wr (RefusesDocument n) s old w (λ none. absurd none)
+    (refused_document contents work h.net_is.expansion n (accepted contents work.sequence n h) is h.net_is.stands.net) begun (models (all_models h.read.trees h.read.read)) cause
 
 -- ---- a stop at the table
 
@@ -128,7 +154,7 @@ no_line contents names inputs bytes rule spot b = elim b.first [
   | inr cell ↦ subst (λ s. IsAtSpot names contents s 1 1) (sym cell.spot_is) tt
 ]
 
-refused_table : (contents : Contents) (work : Work) (u : Unfolding) (table : List ℕ) → IsAccepted contents work.sequence u → work.table ≡ Some table → (r : Refusal)
+refused_table : (contents : Contents) (work : Work) (u : Unfolding) (table : List ℕ) → IsAccepted contents work.sequence u → work.ask ≡ ForRun table → (r : Refusal)
     → RefusesTable contents table (input_columns (labelled u)) r → RefusesWork contents work r
 refused_table contents work u table a is r h =
     subst (RefusesWork contents work) (sym h.refusal_is) (
@@ -141,7 +167,7 @@ abbrev AtTable : List ℕ → Type 0 → Stop → Contents → List Column → T
 AtTable table here s contents inputs = Stops here (RefusesTable contents table inputs) s
 
 pub at_table : (task : Task) (contents kept : Contents) (work : Work) (n : Net) (table : List ℕ) (inputs : List Column) (before mid now : ℕ) (here rr wr : Type 0) (s : Stop) (old : Option (List ℕ))
-    → IsWork task work → work.table ≡ Some table → HasNet contents work.sequence n → kept ≡ contents → inputs ≡ input_columns (net_labelled n) → mid ≡ before + length work.sequence.models → now ≡ mid + 1
+    → IsWork task work → work.ask ≡ ForRun table → HasNet contents work.sequence n → kept ≡ contents → inputs ≡ input_columns (net_labelled n) → mid ≡ before + length work.sequence.models → now ≡ mid + 1
     → (here → rr) → Stops here (RefusesTable kept table inputs) s → Works task contents before now rr wr (end_of s) old old
 at_table task contents kept work n table inputs before mid now here rr wr s old w is h same columns begun one up cause =
     let u = h.net_is.expansion in
@@ -156,12 +182,12 @@ at_table task contents kept work n table inputs before mid now here rr wr s old 
 -- what is known behind the table
 pub record Runs (task : Task) (contents : Contents) (work : Work) (n : Net) (table : List ℕ) (rows : List TableRow) (before now : ℕ) : Type 0 where
   pub work_is : IsWork task work
-  pub table_is : work.table ≡ Some table
+  pub table_is : work.ask ≡ ForRun table
   pub net : HasNet contents work.sequence n
   pub rows_are : HoldsRows contents table (input_columns (labelled net.net_is.expansion)) rows
   pub begun : BeginsInOrder task contents before now
 
-pub runs : (task : Task) (contents kept : Contents) (work : Work) (n : Net) (table : List ℕ) (inputs : List Column) (rows : List TableRow) (before mid now : ℕ) → IsWork task work → work.table ≡ Some table
+pub runs : (task : Task) (contents kept : Contents) (work : Work) (n : Net) (table : List ℕ) (inputs : List Column) (rows : List TableRow) (before mid now : ℕ) → IsWork task work → work.ask ≡ ForRun table
     → HasNet contents work.sequence n → kept ≡ contents → inputs ≡ input_columns (net_labelled n) → mid ≡ before + length work.sequence.models → now ≡ mid + 1 → HoldsRows kept table inputs rows
     → Runs task contents work n table rows before now
 runs task contents kept work n table inputs rows before mid now w is h same columns begun one held =

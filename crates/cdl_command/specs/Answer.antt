@@ -6,12 +6,12 @@ use Rattle.cdl_source.specs.Whole.{WritesSome}
 use Rattle.cdl_source.specs.declared.place.Place.{Place}
 use Rattle.cdl_source.specs.declared.rules.TheConstants.{NOT_BUILT}
 use Rattle.cdl_source.specs.Place.{line_of, column_of}
-use Rattle.cdl_job.specs.Job.{Task, CheckOf, RunOf}
+use Rattle.cdl_job.specs.Job.{Task, CheckOf, RunOf, CxfOf}
 use Rattle.cdl_job.specs.Outcome.{files_of, models_of}
 use Rattle.cdl_command.specs.Texts.{Contents}
 use Rattle.cdl_command.specs.Breaks.{root_path}
 use Rattle.cdl_command.specs.Sequences.{Sequence}
-use Rattle.cdl_command.specs.Verdict.{Work, Verdict}
+use Rattle.cdl_command.specs.Verdict.{ForCheck, ForDocument, ForRun, Work, Verdict}
 use Rattle.cdl_job.specs.declared.outcome.Outcome.{Outcome}
 use Rattle.cdl_job.specs.declared.outcome.Outcome.TheVariants.{Done, Refused, Usage, RangeFault, ReadFault, WriteFault, OutOfMemory}
 use Rattle.cdl_job.specs.declared.outcome.Spot.{Spot}
@@ -20,10 +20,11 @@ use Rattle.cdl_job.specs.declared.outcome.Spot.TheVariants.{Source, Statement}
 abbrev pub sequence : List ℕ → List (List ℕ) → Sequence
 sequence class models = record { class = class; models = models }
 
--- the work of a verb that is built: `check` and `run`
+-- the work of a verb that is built: `check`, `cxf` and `run`
 abbrev pub built : Task → Option Work
-built (CheckOf class models) = Some (record { sequence = sequence class models; table = None })
-built (RunOf class table models) = Some (record { sequence = sequence class models; table = Some table })
+built (CheckOf class models) = Some (record { sequence = sequence class models; ask = ForCheck })
+built (RunOf class table models) = Some (record { sequence = sequence class models; ask = ForRun table })
+built (CxfOf class models) = Some (record { sequence = sequence class models; ask = ForDocument })
 built _ = None
 
 -- what a job of another verb is answered

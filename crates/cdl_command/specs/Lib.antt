@@ -2,6 +2,7 @@ pub mod Texts
 pub mod Sequences
 pub mod Breaks
 pub mod Tables
+pub mod Documents
 pub mod Verdict
 pub mod Answer
 pub mod Top

@@ -2,3 +2,4 @@
 pub mod Stops
 pub mod Reads
 pub mod Plans
+pub mod Documents

@@ -1,6 +1,7 @@
 //! The top call of `cdl`: all that the program does, over any files and any two sinks.
 #![tactic(auto)]
 
+mod document;
 mod laws;
 mod plan;
 mod stop;

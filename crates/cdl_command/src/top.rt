@@ -10,7 +10,7 @@ ghost use Rattle.cdl_command.specs.Top.{Works, OutAfterWords, ErrAfterWords, Beg
 
 use crate::laws::one_answer;
 use crate::stop::{Ended, finished, refused_root};
-use crate::work::{check, run};
+use crate::work::{check, cxf, run};
 use cdl_job::{Job, Outcome, report, usage, words as job_of};
 use cdl_source::rules::NOT_BUILT;
 use cdl_source::{Files, Sink};
@@ -106,7 +106,8 @@ fn work<F: Files, O: Sink>(alloc: Global, job: Job<'_>, files: &mut F, out: &mut
             table,
             models,
         } => finished(run(alloc, class, table, models, files, out)),
-        Job::Cxf { .. } | Job::CheckCxf { .. } | Job::RunCxf { .. } | Job::Sample { .. } => {
+        Job::Cxf { class, models } => finished(cxf(alloc, class, models, files, out)),
+        Job::CheckCxf { .. } | Job::RunCxf { .. } | Job::Sample { .. } => {
             finished(Err(refused_root(alloc, NOT_BUILT)))
         }
     }

@@ -49,6 +49,8 @@ const GATES: &str =
 const CASES: &str =
     "run M t.csv m.mo s.mo~block M|  &Interfaces.BooleanInput u1;|  &Interfaces.BooleanInput u2;|  &Interfaces.BooleanOutput y;|  &Logical.Not n;|  &Logical.And a;|  &Logical.Or o;|equation|  connect(u1, n.u);|  connect(n.y, a.u1);|  connect(u2, a.u2);|  connect(u1, o.u1);|  connect(a.y, o.u2);|  connect(o.y, y);|end M;|~package Q end Q;~time,u1,u2|0,false,false|1000,false,true|2000,true,false|3000,true,true|>0~time,y|0,false|1000,true|2000,true|3000,true|~\n\
     run M t.csv m.mo~block M end M;~~time|7|>0~time|7|~\n\
+    run M t.csv m.mo~block M end M;~~time,u|0,1|>1~~t.csv:1:2: C62 wrong header|\n\
+    run M t.csv m.mo~block M end M;~~time|0,1|>1~~t.csv:2:1: C61 wrong number of fields|\n\
     run P.M t.csv s.mo m.mo~within P; block M /* here */ annotation(version = \"1\"); end M;~within P; package K end K;~time|>0~time|~\n\
     run M t.csv m.mo~block M &Interfaces.RealInput u1; &Interfaces.RealInput u2; &Interfaces.RealOutput y; &Reals.Divide d; equation connect(u1, d.u1); connect(u2, d.u2); connect(d.y, y); end M;~~time,u1,u2|0,1,3|1,2,3|2,1,0|>3~time,y|0,0.333333|1,0.666667|~range fault at 2 in #d|\n\
     run M t.csv m.mo~block M &Interfaces.IntegerInput u1; &Interfaces.IntegerInput u2; &Interfaces.IntegerOutput y; &Integers.Multiply m; equation connect(u1, m.u1); connect(u2, m.u2); connect(m.y, y); end M;~~time,u1,u2|0,65536,32767|1,65536,32768|2,1,1|>3~time,y|0,2147418112|~range fault at 1 in #m|\n\
@@ -77,7 +79,7 @@ const CASES: &str =
     run M none.csv m.mo~block M equation for i in 1:2 loop end for; end M;~~time,u1,u2|>4~~read fault|\n\
     run M none.csv m.mo~block M equation for i in 1:2 loop connect(a, b) end for; end M;~~time,u1,u2|>1~~m.mo:1:50: C7 syntax|\n\
     run M none.csv m.mo~block M equation for i in 1:2:3 loop end for; end M;~~time,u1,u2|>1~~m.mo:1:30: C7 syntax|\n\
-    cxf M m.mo~block M end M;~~time,u1,u2|>1~~#: C9 not built yet|\n\
+    checkcxf m.mo~~~time,u1,u2|>1~~#: C9 not built yet|\n\
     sample 2000~~~time,u1,u2|>1~~#: C9 not built yet|\n\
     run M m.mo m.mo~block M end M;~~time,u1,u2|>1~~m.mo:1:1: C62 wrong header|\n\
     run M none.csv m.mo~block M end M;~~time,u1,u2|>4~~read fault|\n\
@@ -121,6 +123,41 @@ const RULES: &str = "check M m.mo~block M end M;~~>0~ok|~\n\
     run M none.csv m.mo~block M &Logical.Not n; equation connect(n.y, n.u); end M;~~>1~~#n: C50 loop without a delay|\n\
     run M none.csv m.mo~block M &Logical.Not n; &Logical.Pre p; equation connect(n.y, p.u); connect(p.y, n.u); end M;~~>4~~read fault|\n\
     run M t.csv m.mo~block M &Interfaces.BooleanInput u; end M;~~time|0|>1~~t.csv:1:2: C62 wrong header|";
+
+// The same of two rules of different phases at once, the one or the other first in the text.
+const PHASES: &str =
+    "check M m.mo s.mo~block M K k; parameter Real p=1/0; end M;~block K Foo f; end K;~>1~~s.mo:1:9: C12 name not found|\n\
+    check M s.mo m.mo~block M K k; parameter Real p=1/0; end M;~block K Foo f; end K;~>1~~s.mo:1:9: C12 name not found|\n\
+    check M m.mo s.mo~block M K k; parameter Real p=1/0; end M;~block K equation connect(y, z); end K;~>1~~#p: C30 no value|\n\
+    check M m.mo s.mo~block M parameter Real p=1/0; K k; end M;~block K equation connect(y, z); end K;~>1~~#p: C30 no value|\n\
+    check M m.mo~block M &Interfaces.RealInput u; equation connect(u, u); connect(u, z); end M;~~>1~~m.mo:1:84 in #: C40 no such connector|\n\
+    check M m.mo~block M &Interfaces.RealInput u; equation connect(u, z); connect(u, u); end M;~~>1~~m.mo:1:69 in #: C40 no such connector|\n\
+    check M m.mo~block M &Logical.Pre p; &Interfaces.RealInput u; equation connect(u, u); end M;~~>1~~#u to #u: C43 two sources or two sinks joined|\n\
+    check M m.mo~block M &Interfaces.RealInput u; &Logical.Pre p; equation connect(u, u); end M;~~>1~~#u to #u: C43 two sources or two sinks joined|\n\
+    check M m.mo~block M &Interfaces.RealInput a(unit=\"K\"); &Interfaces.RealOutput b(unit=\"C\"); &Logical.Not n; equation connect(n.y, n.u); connect(a, b); end M;~~>1~~#a to #b: C48 units differ|\n\
+    check M m.mo~block M &Interfaces.RealInput a(unit=\"K\"); &Interfaces.RealOutput b(unit=\"C\"); &Logical.Not n; equation connect(a, b); connect(n.y, n.u); end M;~~>1~~#a to #b: C48 units differ|";
+
+// The same of documents: without an element, of blocks in blocks with arrays and units, and with every type of parameter; and of
+// refusals, of each phase one.
+const DOCUMENTS: &str =
+    "cxf M m.mo~block M end M;~~>0~{\"$context\":{\"cdl\":\"urn:cdl-cxf-profile:2\"},\"$graph\":[{\"$id\":\"#\",\"$type\":\"cdl:Composite\",\"cdl:connections\":[],\"cdl:connectors\":[],\"cdl:instances\":[]}]}|~\n\
+    cxf M m.mo~block M &Interfaces.BooleanInput u; &Interfaces.BooleanOutput y; &Logical.Not n; equation connect(u, n.u); connect(n.y, y); end M;~~>0~{\"$context\":{\"cdl\":\"urn:cdl-cxf-profile:2\"},\"$graph\":[{\"$id\":\"#\",\"$type\":\"cdl:Composite\",\"cdl:connections\":[[{\"$id\":\"#u\"},{\"$id\":\"#n.u\"}],[{\"$id\":\"#n.y\"},{\"$id\":\"#y\"}]],\"cdl:connectors\":[{\"$id\":\"#u\"},{\"$id\":\"#y\"}],\"cdl:instances\":[{\"$id\":\"#n\"}]},{\"$id\":\"#u\",\"$type\":\"cdl:BooleanInput\"},{\"$id\":\"#y\",\"$type\":\"cdl:BooleanOutput\"},{\"$id\":\"#n\",\"$type\":\"cdl:Elementary\",\"cdl:connectors\":[{\"$id\":\"#n.u\"},{\"$id\":\"#n.y\"}],\"cdl:kind\":\"Logical.Not\",\"cdl:parameters\":{}},{\"$id\":\"#n.u\",\"$type\":\"cdl:BooleanInput\"},{\"$id\":\"#n.y\",\"$type\":\"cdl:BooleanOutput\"}]}|~\n\
+    cxf P.M m.mo s.mo~within P; block M &Interfaces.RealInput u[2](unit={\"K\",\"\"}); &Interfaces.RealOutput y[2](each unit=\"m2\"); &Interfaces.RealOutput z if false; K k[2]; equation connect(k.u, u); connect(k.y, y); end M;~within P; block K &Interfaces.RealInput u; &Interfaces.RealOutput y; &Reals.Abs a; equation connect(a.u, u); connect(a.y, y); end K;~>0~{\"$context\":{\"cdl\":\"urn:cdl-cxf-profile:2\"},\"$graph\":[{\"$id\":\"#\",\"$type\":\"cdl:Composite\",\"cdl:connections\":[[{\"$id\":\"#u[1]\"},{\"$id\":\"#k[1].u\"}],[{\"$id\":\"#u[2]\"},{\"$id\":\"#k[2].u\"}],[{\"$id\":\"#k[1].y\"},{\"$id\":\"#y[1]\"}],[{\"$id\":\"#k[2].y\"},{\"$id\":\"#y[2]\"}]],\"cdl:connectors\":[{\"$id\":\"#u[1]\"},{\"$id\":\"#u[2]\"},{\"$id\":\"#y[1]\"},{\"$id\":\"#y[2]\"}],\"cdl:instances\":[{\"$id\":\"#k[1]\"},{\"$id\":\"#k[2]\"}]},{\"$id\":\"#u[1]\",\"$type\":\"cdl:RealInput\",\"cdl:unit\":\"K\"},{\"$id\":\"#u[2]\",\"$type\":\"cdl:RealInput\"},{\"$id\":\"#y[1]\",\"$type\":\"cdl:RealOutput\",\"cdl:unit\":\"m2\"},{\"$id\":\"#y[2]\",\"$type\":\"cdl:RealOutput\",\"cdl:unit\":\"m2\"},{\"$id\":\"#k[1]\",\"$type\":\"cdl:Composite\",\"cdl:connections\":[[{\"$id\":\"#k[1].u\"},{\"$id\":\"#k[1].a.u\"}],[{\"$id\":\"#k[1].a.y\"},{\"$id\":\"#k[1].y\"}]],\"cdl:connectors\":[{\"$id\":\"#k[1].u\"},{\"$id\":\"#k[1].y\"}],\"cdl:instances\":[{\"$id\":\"#k[1].a\"}]},{\"$id\":\"#k[1].u\",\"$type\":\"cdl:RealInput\"},{\"$id\":\"#k[1].y\",\"$type\":\"cdl:RealOutput\"},{\"$id\":\"#k[1].a\",\"$type\":\"cdl:Elementary\",\"cdl:connectors\":[{\"$id\":\"#k[1].a.u\"},{\"$id\":\"#k[1].a.y\"}],\"cdl:kind\":\"Reals.Abs\",\"cdl:parameters\":{}},{\"$id\":\"#k[1].a.u\",\"$type\":\"cdl:RealInput\"},{\"$id\":\"#k[1].a.y\",\"$type\":\"cdl:RealOutput\"},{\"$id\":\"#k[2]\",\"$type\":\"cdl:Composite\",\"cdl:connections\":[[{\"$id\":\"#k[2].u\"},{\"$id\":\"#k[2].a.u\"}],[{\"$id\":\"#k[2].a.y\"},{\"$id\":\"#k[2].y\"}]],\"cdl:connectors\":[{\"$id\":\"#k[2].u\"},{\"$id\":\"#k[2].y\"}],\"cdl:instances\":[{\"$id\":\"#k[2].a\"}]},{\"$id\":\"#k[2].u\",\"$type\":\"cdl:RealInput\"},{\"$id\":\"#k[2].y\",\"$type\":\"cdl:RealOutput\"},{\"$id\":\"#k[2].a\",\"$type\":\"cdl:Elementary\",\"cdl:connectors\":[{\"$id\":\"#k[2].a.u\"},{\"$id\":\"#k[2].a.y\"}],\"cdl:kind\":\"Reals.Abs\",\"cdl:parameters\":{}},{\"$id\":\"#k[2].a.u\",\"$type\":\"cdl:RealInput\"},{\"$id\":\"#k[2].a.y\",\"$type\":\"cdl:RealOutput\"}]}|~\n\
+    cxf M m.mo~block M &Interfaces.RealInput r[2]; &Interfaces.IntegerInput i[2]; &Interfaces.BooleanInput b; &Reals.MultiSum s(nin=2, k={1.50,-1e-6}); &Integers.MultiSum m(nin=2, k={3,-2147483647}); &Integers.AddParameter a(p=-7); &Logical.TrueDelay d(delayTime=12.5, delayOnInit=true); equation connect(r, s.u); connect(i, m.u); connect(m.y, a.u); connect(b, d.u); end M;~~>0~{\"$context\":{\"cdl\":\"urn:cdl-cxf-profile:2\"},\"$graph\":[{\"$id\":\"#\",\"$type\":\"cdl:Composite\",\"cdl:connections\":[[{\"$id\":\"#r[1]\"},{\"$id\":\"#s.u[1]\"}],[{\"$id\":\"#r[2]\"},{\"$id\":\"#s.u[2]\"}],[{\"$id\":\"#i[1]\"},{\"$id\":\"#m.u[1]\"}],[{\"$id\":\"#i[2]\"},{\"$id\":\"#m.u[2]\"}],[{\"$id\":\"#m.y\"},{\"$id\":\"#a.u\"}],[{\"$id\":\"#b\"},{\"$id\":\"#d.u\"}]],\"cdl:connectors\":[{\"$id\":\"#r[1]\"},{\"$id\":\"#r[2]\"},{\"$id\":\"#i[1]\"},{\"$id\":\"#i[2]\"},{\"$id\":\"#b\"}],\"cdl:instances\":[{\"$id\":\"#s\"},{\"$id\":\"#m\"},{\"$id\":\"#a\"},{\"$id\":\"#d\"}]},{\"$id\":\"#r[1]\",\"$type\":\"cdl:RealInput\"},{\"$id\":\"#r[2]\",\"$type\":\"cdl:RealInput\"},{\"$id\":\"#i[1]\",\"$type\":\"cdl:IntegerInput\"},{\"$id\":\"#i[2]\",\"$type\":\"cdl:IntegerInput\"},{\"$id\":\"#b\",\"$type\":\"cdl:BooleanInput\"},{\"$id\":\"#s\",\"$type\":\"cdl:Elementary\",\"cdl:connectors\":[{\"$id\":\"#s.u[1]\"},{\"$id\":\"#s.u[2]\"},{\"$id\":\"#s.y\"}],\"cdl:kind\":\"Reals.MultiSum\",\"cdl:parameters\":{\"k\":[\"1.5\",\"-0.000001\"],\"nin\":2}},{\"$id\":\"#s.u[1]\",\"$type\":\"cdl:RealInput\"},{\"$id\":\"#s.u[2]\",\"$type\":\"cdl:RealInput\"},{\"$id\":\"#s.y\",\"$type\":\"cdl:RealOutput\"},{\"$id\":\"#m\",\"$type\":\"cdl:Elementary\",\"cdl:connectors\":[{\"$id\":\"#m.u[1]\"},{\"$id\":\"#m.u[2]\"},{\"$id\":\"#m.y\"}],\"cdl:kind\":\"Integers.MultiSum\",\"cdl:parameters\":{\"k\":[3,-2147483647],\"nin\":2}},{\"$id\":\"#m.u[1]\",\"$type\":\"cdl:IntegerInput\"},{\"$id\":\"#m.u[2]\",\"$type\":\"cdl:IntegerInput\"},{\"$id\":\"#m.y\",\"$type\":\"cdl:IntegerOutput\"},{\"$id\":\"#a\",\"$type\":\"cdl:Elementary\",\"cdl:connectors\":[{\"$id\":\"#a.u\"},{\"$id\":\"#a.y\"}],\"cdl:kind\":\"Integers.AddParameter\",\"cdl:parameters\":{\"p\":-7}},{\"$id\":\"#a.u\",\"$type\":\"cdl:IntegerInput\"},{\"$id\":\"#a.y\",\"$type\":\"cdl:IntegerOutput\"},{\"$id\":\"#d\",\"$type\":\"cdl:Elementary\",\"cdl:connectors\":[{\"$id\":\"#d.u\"},{\"$id\":\"#d.y\"}],\"cdl:kind\":\"Logical.TrueDelay\",\"cdl:parameters\":{\"delayOnInit\":true,\"delayTime\":\"12.5\"}},{\"$id\":\"#d.u\",\"$type\":\"cdl:BooleanInput\"},{\"$id\":\"#d.y\",\"$type\":\"cdl:BooleanOutput\"}]}|~\n\
+    cxf M none.mo~~~>4~~read fault|\n\
+    cxf M m.mo~block M end N;~~>1~~m.mo:1:13: C8 wrong name after end|\n\
+    cxf M m.mo~block M Foo f; end M;~~>1~~m.mo:1:9: C12 name not found|\n\
+    cxf N m.mo~block M end M;~~>1~~#: C14 no such block|\n\
+    cxf M m.mo~block M parameter Real p=1/0; end M;~~>1~~#p: C30 no value|\n\
+    cxf M m.mo~block M &Interfaces.RealOutput y; equation connect(y, z); end M;~~>1~~m.mo:1:70 in #: C40 no such connector|\n\
+    cxf M m.mo~block M &Interfaces.RealInput u; equation connect(u, u); end M;~~>1~~#u to #u: C43 two sources or two sinks joined|\n\
+    cxf M m.mo~block M &Logical.Pre p; end M;~~>1~~#p.u: C46 no source|\n\
+    cxf M m.mo~block M &Logical.Not n; equation connect(n.y, n.u); end M;~~>1~~#n: C50 loop without a delay|";
+
+// The same of models at the limit of wires, and past it.
+const WIRES: &str =
+    "check M m.mo~block M &Interfaces.RealInput u[4000]; &Interfaces.RealOutput y[4000]; equation for i in 1:100 loop connect(u, y); end for; end M;~~>1~~#y[1]: C45 more than one source|\n\
+    check M m.mo~block M &Interfaces.RealInput u[4000]; &Interfaces.RealOutput y[4000]; equation for i in 1:101 loop connect(u, y); end for; end M;~~>1~~m.mo:1:153 in #: C47 too many wires|";
 
 // Words that are no job.
 const NO_JOBS: &str = "sample 007\n\
@@ -194,6 +231,11 @@ const FAILING_CALLS: &str = "10 0 0>0~time,y|0,false|1000,true|2000,true|3000,tr
     0 8 0>5~time,y|0,false|1000,true|2000,true|~write fault|\n\
     0 9 0>5~time,y|0,false|1000,true|2000,true|3000,tr~write fault|";
 
+// Jobs that write much, and what they print: a run of blocks with states, and a document.
+const WRITES: &str =
+    "run M t.csv m.mo~block M &Interfaces.BooleanInput u; &Interfaces.BooleanOutput y; &Interfaces.BooleanOutput z; &Logical.Pre p; &Logical.TrueDelay d(delayTime=1.5); equation connect(u, p.u); connect(p.y, y); connect(u, d.u); connect(d.y, z); end M;~~time,u|0,false|1000,true|2000,true|3000,true|4000,false|>time,y,z|0,false,false|1000,false,false|2000,true,false|3000,true,true|4000,true,false|\n\
+    cxf M m.mo~block M &Interfaces.BooleanInput u; &Interfaces.BooleanOutput y; &Logical.Not n; equation connect(u, n.u); connect(n.y, y); end M;~~>{\"$context\":{\"cdl\":\"urn:cdl-cxf-profile:2\"},\"$graph\":[{\"$id\":\"#\",\"$type\":\"cdl:Composite\",\"cdl:connections\":[[{\"$id\":\"#u\"},{\"$id\":\"#n.u\"}],[{\"$id\":\"#n.y\"},{\"$id\":\"#y\"}]],\"cdl:connectors\":[{\"$id\":\"#u\"},{\"$id\":\"#y\"}],\"cdl:instances\":[{\"$id\":\"#n\"}]},{\"$id\":\"#u\",\"$type\":\"cdl:BooleanInput\"},{\"$id\":\"#y\",\"$type\":\"cdl:BooleanOutput\"},{\"$id\":\"#n\",\"$type\":\"cdl:Elementary\",\"cdl:connectors\":[{\"$id\":\"#n.u\"},{\"$id\":\"#n.y\"}],\"cdl:kind\":\"Logical.Not\",\"cdl:parameters\":{}},{\"$id\":\"#n.u\",\"$type\":\"cdl:BooleanInput\"},{\"$id\":\"#n.y\",\"$type\":\"cdl:BooleanOutput\"}]}|";
+
 fn words_of(alloc: Global, text: &str) -> Result<Vec<String>, Fail> {
     let mut words = Vec::new(alloc);
     for word in text.split(' ') {
@@ -257,8 +299,8 @@ fn end_of(alloc: Global, given: &Given<'_>, devices: Devices) -> Result<Text, Fa
     text_of(alloc, code, out.bytes(), err.bytes())
 }
 
-// Whether the job of this case ends with what is marked.
-fn ends_with(alloc: Global, case: &str, want: &str, devices: Devices) -> Result<bool, Fail> {
+// What the job of this case ends with.
+fn end_of_case(alloc: Global, case: &str, devices: Devices) -> Result<Text, Fail> {
     let mut parts = case.split('~');
     let words = parts.next().ok_or("no words")?;
     let model = bytes_of(alloc, parts.next().ok_or("no model")?, LIBRARY)?;
@@ -270,8 +312,51 @@ fn ends_with(alloc: Global, case: &str, want: &str, devices: Devices) -> Result<
         other: other.bytes(),
         table: table.bytes(),
     };
-    let end = end_of(alloc, &given, devices)?;
+    end_of(alloc, &given, devices)
+}
+
+// Whether the job of this case ends with what is marked.
+fn ends_with(alloc: Global, case: &str, want: &str, devices: Devices) -> Result<bool, Fail> {
+    let end = end_of_case(alloc, case, devices)?;
     let want = bytes_of(alloc, want, LIBRARY)?;
+    Ok(end.bytes() == want.bytes())
+}
+
+// Whether the job of this case ends with a write fault where this write to the standard output fails, and these bytes stand there.
+fn fails_behind(alloc: Global, case: &str, write: u64, front: &[u8]) -> Result<bool, Fail> {
+    let devices = Devices {
+        out: write,
+        ..SOUND
+    };
+    let end = end_of_case(alloc, case, devices)?;
+    let want = text_of(alloc, 5, front, b"write fault\n")?;
+    Ok(end.bytes() == want.bytes())
+}
+
+// Whether the job of this case, which prints this text, ends with a write fault behind each front of it that writes of at most 7
+// bytes leave, none of them over the end of a line, and prints all of it where the write behind the last one would fail.
+fn fails_in_turn(alloc: Global, case: &str, text: &str) -> Result<bool, Fail> {
+    let whole = bytes_of(alloc, text, LIBRARY)?;
+    let mut front = Text::new(alloc);
+    let mut piece = Text::new(alloc);
+    let mut write = 1u64;
+    for byte in whole.bytes() {
+        piece.push(&[*byte])?;
+        if piece.bytes().len() == 7 || *byte == b'\n' {
+            if !fails_behind(alloc, case, write, front.bytes())? {
+                return Ok(false);
+            }
+            front.push(piece.bytes())?;
+            piece = Text::new(alloc);
+            write = write.wrapping_add(1);
+        }
+    }
+    let devices = Devices {
+        out: write,
+        ..SOUND
+    };
+    let end = end_of_case(alloc, case, devices)?;
+    let want = text_of(alloc, 0, whole.bytes(), b"")?;
     Ok(end.bytes() == want.bytes())
 }
 
@@ -359,6 +444,14 @@ fn jobs_end_so(rt: HostRuntime) -> Result<(), Fail> {
         let (case, want) = line.split_once('>').ok_or("no end")?;
         assert!(rt; ends_with(alloc, case, want, SOUND)?, "{line}");
     }
+    for line in PHASES.lines() {
+        let (case, want) = line.split_once('>').ok_or("no end")?;
+        assert!(rt; ends_with(alloc, case, want, SOUND)?, "{line}");
+    }
+    for line in DOCUMENTS.lines() {
+        let (case, want) = line.split_once('>').ok_or("no end")?;
+        assert!(rt; ends_with(alloc, case, want, SOUND)?, "{line}");
+    }
     for line in TABLES.lines() {
         let (table, want) = line.split_once('>').ok_or("no end")?;
         let table = bytes_of(alloc, table, LIBRARY)?;
@@ -390,6 +483,10 @@ fn limits_are_exact(rt: HostRuntime) -> Result<(), Fail> {
         gates_end_so(alloc, table.bytes(), "1~~t.csv: C60 table too long|")?,
         "table too long"
     );
+    for line in WIRES.lines() {
+        let (case, want) = line.split_once('>').ok_or("no end")?;
+        assert!(rt; ends_with(alloc, case, want, SOUND)?, "{line}");
+    }
     let many = table_of_many_rows(alloc)?;
     assert!(rt;
         gates_end_so(
@@ -442,6 +539,10 @@ fn each_call_fails_in_turn(rt: HostRuntime) -> Result<(), Fail> {
             ends_with(alloc, TWO_MODELS, want, failing_calls(calls)?)?,
             "{line}"
         );
+    }
+    for line in WRITES.lines() {
+        let (case, text) = line.split_once('>').ok_or("no text")?;
+        assert!(rt; fails_in_turn(alloc, case, text)?, "{line}");
     }
     Ok(())
 }

@@ -12,7 +12,8 @@ use Rattle.cdl_paths.specs.declared.path.Step.{Step}
 use Rattle.cdl_walk.specs.Texts.{path_text}
 use Rattle.cdl_network.specs.FirstBroken.{Accepted}
 use Rattle.cdl_connect.specs.declared.net.Net.{Net}
-use Rattle.cdl_connect.specs.WellFormed.{AreOfKinds, ArePlain, IsIndexed}
+use Rattle.cdl_connect.specs.WellFormed.{AreOfKinds, ArePlain, IsIndexed, IsWellFormed}
+use Rattle.cdl_model.specs.NetOf.{NetOf}
 use Rattle.cdl_model.specs.Networks.{network}
 use Rattle.cdl_model.specs.Parts.{Unfolding}
 use Rattle.cdl_expand.specs.declared.fault.ExpandFault.{ExpandFault}
@@ -97,8 +98,10 @@ RefusesModel texts w r = RefusesElements texts w r ⊎ RefusesNetwork w r
 
 -- ---- the net of a plan
 
--- The net's numbers, kinds and types are good; it takes the tables of the model unfolded, and its ticks end as the model's do.
+-- The net is that of the model unfolded, and well formed; its numbers, kinds and types are good; it takes the tables of the model, and its ticks end as the model's do.
 pub record StandsFor (u : Unfolding) (n : Net) : Type 0 where
+  pub net : NetOf u n
+  pub formed : IsWellFormed n
   pub indexed : IsIndexed n
   pub kinds : AreOfKinds n
   pub plain : ArePlain n

@@ -24,7 +24,7 @@ returns-in-Ok-clause-ok c =
       name = λ x i. c.net_is_model.ensures.name w u n x h.unfolded h.net i;
     } in
     let accepted = c.rules_are_the_nets.ensures.accepted w u n h.unfolded h.net c.in-Ok.ensures.accepted in
-    subst (λ m. IsNetOf w m) (sym c.in-Ok.ensures.net) (net_is w u n h.expanded along h.indexed h.kinds h.plain accepted)
+    subst (λ m. IsNetOf w m) (sym c.in-Ok.ensures.net) (net_is w u n h.expanded h.net h.formed along h.indexed accepted)
 
 pub returns-in-Err-clause-err : goal.returns-in-Err-clause-err
 returns-in-Err-clause-err c =

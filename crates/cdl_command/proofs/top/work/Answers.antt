@@ -7,3 +7,6 @@ returns-in-Check-clause-ends g c = λ done. where_done c.check.result (IsAtEnd (
 
 pub returns-in-Run-clause-ends : goal.returns-in-Run-clause-ends
 returns-in-Run-clause-ends g c = λ done. where_done c.run.result (IsAtEnd (g.F.Files.rest c.run.new.files)) c.run.ensures.ends (rw c.finished-in-Run.ensures at done)
+
+pub returns-in-Cxf-clause-ends : goal.returns-in-Cxf-clause-ends
+returns-in-Cxf-clause-ends g c = λ done. where_done c.cxf.result (IsAtEnd (g.F.Files.rest c.cxf.new.files)) c.cxf.ensures.ends (rw c.finished-in-Cxf.ensures at done)

@@ -1,9 +1,9 @@
-use Rattle.std.proofs.Common.{Some, [], ◌∷◌, arith, map, refl, string_bytes}
+use Rattle.std.proofs.Common.{[], ◌∷◌, arith, map, refl, string_bytes}
 use Rattle.std.proofs.lemmas.List.{length-map}
 use Rattle.std.proofs.lemmas.Result.{err_from_is_err_and}
 use Rattle.cdl_job.specs.Job.{RunOf}
 use Rattle.cdl_command.specs.Answer.{sequence}
-use Rattle.cdl_command.specs.Verdict.{Work}
+use Rattle.cdl_command.specs.Verdict.{ForRun, Work}
 use Rattle.cdl_command.proofs.ModelFacts.{front_due, last_due}
 use Rattle.cdl_command.proofs.TextFacts.{fault_behind}
 use Rattle.cdl_command.proofs.WorkFacts.{IsWork, at_table, cut_off, fault_told, halted, no_memory, ran_through, runs}
@@ -16,7 +16,7 @@ pub returns-in_err-plan-clause-works : goal.returns-in_err-plan-clause-works
 returns-in_err-plan-clause-works g c =
     let p = err_from_is_err_and c.from_residual.result c.from_residual.ensures.1 in
     let models = map string_bytes c.args.models.now in
-    let work : Work = record { sequence = sequence c.args.class.now models; table = Some c.args.table.now } in
+    let work : Work = record { sequence = sequence c.args.class.now models; ask = ForRun c.args.table.now } in
     let w : IsWork (RunOf c.args.class.now c.args.table.now models) work = record { is = refl; models = refl } in
     rw (p.1, p.2) (halted (RunOf c.args.class.now c.args.table.now models) (g.F.Files.contents c.args.files.now) work _ _ _ _ _ _ w c.in_err-plan.ensures.err)
 
@@ -29,7 +29,7 @@ pub returns-in_err-inputs-clause-works : goal.returns-in_err-inputs-clause-works
 returns-in_err-inputs-clause-works g c =
     let p = err_from_is_err_and c.from_residual-in_err-inputs.result c.from_residual-in_err-inputs.ensures.1 in
     let models = map string_bytes c.args.models.now in
-    let work : Work = record { sequence = sequence c.args.class.now models; table = Some c.args.table.now } in
+    let work : Work = record { sequence = sequence c.args.class.now models; ask = ForRun c.args.table.now } in
     let w : IsWork (RunOf c.args.class.now c.args.table.now models) work = record { is = refl; models = refl } in
     rw (p.1, p.2)
     (no_memory (RunOf c.args.class.now c.args.table.now models) (g.F.Files.contents c.args.files.now) work _ _ _ _ _ _ w c.in_ok-plan.ensures.ok
@@ -43,7 +43,7 @@ pub returns-in_err-rows-clause-works : goal.returns-in_err-rows-clause-works
 returns-in_err-rows-clause-works g c =
     let p = err_from_is_err_and c.from_residual-in_err-rows.result c.from_residual-in_err-rows.ensures.1 in
     let models = map string_bytes c.args.models.now in
-    let work : Work = record { sequence = sequence c.args.class.now models; table = Some c.args.table.now } in
+    let work : Work = record { sequence = sequence c.args.class.now models; ask = ForRun c.args.table.now } in
     let w : IsWork (RunOf c.args.class.now c.args.table.now models) work = record { is = refl; models = refl } in
     rw (p.1, p.2)
     (at_table (RunOf c.args.class.now c.args.table.now models) (g.F.Files.contents c.args.files.now) (g.F.Files.contents c.plan_of.new.files) work c.in_ok-plan.plan.net c.args.table.now c.in_ok-inputs.inputs _
@@ -61,7 +61,7 @@ returns-in_err-write_trace-clause-works g c =
     let models = map string_bytes c.args.models.now in
     let task = RunOf c.args.class.now c.args.table.now models in
     let contents = g.F.Files.contents c.args.files.now in
-    let work : Work = record { sequence = sequence c.args.class.now models; table = Some c.args.table.now } in
+    let work : Work = record { sequence = sequence c.args.class.now models; ask = ForRun c.args.table.now } in
     let w : IsWork task work = record { is = refl; models = refl } in
     let n = c.in_ok-plan.plan.net in
     let rows = c.in_ok-rows.rows in
@@ -76,7 +76,7 @@ returns-clause-works g c =
     let models = map string_bytes c.args.models.now in
     let task = RunOf c.args.class.now c.args.table.now models in
     let contents = g.F.Files.contents c.args.files.now in
-    let work : Work = record { sequence = sequence c.args.class.now models; table = Some c.args.table.now } in
+    let work : Work = record { sequence = sequence c.args.class.now models; ask = ForRun c.args.table.now } in
     let w : IsWork task work = record { is = refl; models = refl } in
     let n = c.in_ok-plan.plan.net in
     let rows = c.in_ok-rows.rows in
