@@ -1,5 +1,5 @@
 // A block of any kind.
-ghost use Rattle.std.specs.Prelude.{◌≡◌, ◌+◌, ◌↔◌, ℤ, List, false, refl, unsigned_abs};
+ghost use Rattle.std.specs.Prelude.{◌≡◌, ◌+◌, ◌↔◌, ◌<ℤ◌, ℤ, List, MatchResult, None, OnErr, OnOk, Some, false, length, refl, unsigned_abs};
 ghost use Rattle.std.proofs.Common.{arith};
 ghost use Rattle.cdl_blocks.specs.declared.any_block.AnyBlock.TheVariants.{Memoryless, Edge, Pre, Memory, Hysteresis, IntegerChange, OnCounter, Timer, TimerAccumulating, TrueDelay, TrueFalseHold, Pulse, Sampler, UnitDelay, TriggeredSampler, TriggeredMax, TriggeredMovingMean};
 ghost use Rattle.cdl_blocks.specs.Rules.{rule_direct};
@@ -14,7 +14,7 @@ ghost use Rattle.cdl_kinds.specs.States.{IsSound, Stands};
 ghost use Rattle.cdl_memoryless.specs.AtOnce.{all_direct};
 ghost use Rattle.cdl_memoryless.specs.MemorylessKinds.{is_memoryless};
 ghost use Rattle.cdl_values.proofs.Laws.{by_all};
-ghost use Rattle.cdl_values.specs.History.{History, word};
+ghost use Rattle.cdl_values.specs.History.{AreReady, AreValues, History, IsHistory, IsLater, IsTime, word};
 ghost use Rattle.cdl_values.specs.Values.{integer_at, real_at};
 
 use crate::counter::OnCounter;
@@ -252,6 +252,48 @@ impl AnyBlock {
     }
 }
 
+// Emits a block. It is no part of the loop over the steps of a tick, which is faster with the memoryless kinds alone in it.
+#[inline(never)]
+fn emit_apart<L: Ledger>(
+    block: &AnyBlock,
+    state: &[i64],
+    now: i64,
+    ins: &[i64],
+    outs: &mut [i64],
+    steps: &mut Steps<L>,
+) -> Result<(), NoValue>
+    requires apart { (b : MemorylessBlock) → block.now ≡ Memoryless b → ⊥ }
+    requires state { length state.now ≡ ⟦<AnyBlock as Elementary>⟧.width block.now }
+    requires outs { length outs.old ≡ (⟦<AnyBlock as Elementary>⟧.results block.now).count }
+    requires time { IsTime now }
+    requires ready { AreReady (⟦<AnyBlock as Elementary>⟧.inputs block.now) ins.now }
+    requires sound { (last : ℤ) × (last <ℤ now) × ⟦<AnyBlock as Elementary>⟧.is_sound block.now state.now last }
+    ensures step { steps.new ≡ steps.old + 1 }
+    ensures typed { OnOk result (AreValues (⟦<AnyBlock as Elementary>⟧.results block.now) outs.new) }
+    ensures gives { (h : History) → IsHistory (⟦<AnyBlock as Elementary>⟧.inputs block.now) (⟦<AnyBlock as Elementary>⟧.meaning block.now) h → IsLater now h → ⟦<AnyBlock as Elementary>⟧.stands block.now state.now h → MatchResult result (λ _. ⟦<AnyBlock as Elementary>⟧.meaning block.now h now ins.now ≡ Some outs.new) (λ _. ⟦<AnyBlock as Elementary>⟧.meaning block.now h now ins.now ≡ None) }
+    ensures lacks { OnErr result (⟦<AnyBlock as Elementary>⟧.may_lack block.now now ins.now) }
+{
+    match block {
+        AnyBlock::Memoryless(_) => unreachable!(),
+        AnyBlock::Edge(b) => b.emit(state, now, ins, outs, steps),
+        AnyBlock::Pre(b) => b.emit(state, now, ins, outs, steps),
+        AnyBlock::Memory(b) => b.emit(state, now, ins, outs, steps),
+        AnyBlock::Hysteresis(b) => b.emit(state, now, ins, outs, steps),
+        AnyBlock::IntegerChange(b) => b.emit(state, now, ins, outs, steps),
+        AnyBlock::OnCounter(b) => b.emit(state, now, ins, outs, steps),
+        AnyBlock::Timer(b) => b.emit(state, now, ins, outs, steps),
+        AnyBlock::TimerAccumulating(b) => b.emit(state, now, ins, outs, steps),
+        AnyBlock::TrueDelay(b) => b.emit(state, now, ins, outs, steps),
+        AnyBlock::TrueFalseHold(b) => b.emit(state, now, ins, outs, steps),
+        AnyBlock::Pulse(b) => b.emit(state, now, ins, outs, steps),
+        AnyBlock::Sampler(b) => b.emit(state, now, ins, outs, steps),
+        AnyBlock::UnitDelay(b) => b.emit(state, now, ins, outs, steps),
+        AnyBlock::TriggeredSampler(b) => b.emit(state, now, ins, outs, steps),
+        AnyBlock::TriggeredMax(b) => b.emit(state, now, ins, outs, steps),
+        AnyBlock::TriggeredMovingMean(b) => b.emit(state, now, ins, outs, steps),
+    }
+}
+
 impl Elementary for AnyBlock {
     ghost inputs = { elim [ Memoryless b ↦ ⟦<MemorylessBlock as Elementary>⟧.inputs b | Edge b ↦ ⟦<Edge as Elementary>⟧.inputs b | Pre b ↦ ⟦<Pre as Elementary>⟧.inputs b | Memory b ↦ ⟦<Memory as Elementary>⟧.inputs b | Hysteresis b ↦ ⟦<Hysteresis as Elementary>⟧.inputs b | IntegerChange b ↦ ⟦<IntegerChange as Elementary>⟧.inputs b | OnCounter b ↦ ⟦<OnCounter as Elementary>⟧.inputs b | Timer b ↦ ⟦<Timer as Elementary>⟧.inputs b | TimerAccumulating b ↦ ⟦<TimerAccumulating as Elementary>⟧.inputs b | TrueDelay b ↦ ⟦<TrueDelay as Elementary>⟧.inputs b | TrueFalseHold b ↦ ⟦<TrueFalseHold as Elementary>⟧.inputs b | Pulse b ↦ ⟦<Pulse as Elementary>⟧.inputs b | Sampler b ↦ ⟦<Sampler as Elementary>⟧.inputs b | UnitDelay b ↦ ⟦<UnitDelay as Elementary>⟧.inputs b | TriggeredSampler b ↦ ⟦<TriggeredSampler as Elementary>⟧.inputs b | TriggeredMax b ↦ ⟦<TriggeredMax as Elementary>⟧.inputs b | TriggeredMovingMean b ↦ ⟦<TriggeredMovingMean as Elementary>⟧.inputs b ] };
 
@@ -287,7 +329,10 @@ impl Elementary for AnyBlock {
         outs: &mut [i64],
         steps: &mut Steps<L>,
     ) -> Result<(), NoValue> {
-        each!(self, b => b.emit(state, now, ins, outs, steps))
+        match self {
+            AnyBlock::Memoryless(b) => b.emit(state, now, ins, outs, steps),
+            _ => emit_apart(self, state, now, ins, outs, steps),
+        }
     }
 
     fn absorb(&self, state: &mut [i64], now: i64, ins: &[i64]) {

@@ -213,10 +213,9 @@ pub fn emit_all<B: Elementary, L: Ledger>(
     ensures none { (r : Past) → Starts (blocks_of B.inputs B.results B.width B.meaning B.stands B.is_sound B.may_lack) (net_of blocks.now nodes.now actions.now kinds.now rows.now) now r words.old → result ≡ None → NoFault (blocks_of B.inputs B.results B.width B.meaning B.stands B.is_sound B.may_lack) (net_of blocks.now nodes.now actions.now kinds.now rows.now) now r (word words.new) }
 {
     let mut least: Option<usize> = None;
-    for i in 0..actions.len() {
-        let action = actions[i];
+    for action in actions {
         least = advance(
-            blocks, nodes, actions, kinds, rows, action, row, least, words, now, steps,
+            blocks, nodes, actions, kinds, rows, *action, row, least, words, now, steps,
         );
     }
     least
